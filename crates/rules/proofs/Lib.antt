@@ -1,4 +1,12 @@
 -- The theorems about the definitions of specs/.
 pub mod Lists
 pub mod Lines
+pub mod White
+pub mod Trailer
+pub mod Paragraph
+pub mod Manual
+pub mod Places
+pub mod Division
+pub mod Walk
+pub mod Blocks
 pub mod Examples

@@ -27,6 +27,10 @@ pub nor : (a b : Bool) → T (not a) → T (not b) → T (not (a || b))
 nor true b t u = t
 nor false b t u = u
 
+pub nor-right : (a b : Bool) → T (not (a || b)) → T (not b)
+nor-right true b t = absurd t
+nor-right false b t = t
+
 pub and-left : (a b : Bool) → T (a && b) → T a
 and-left true b t = tt
 and-left false b t = absurd t

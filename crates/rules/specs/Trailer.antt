@@ -107,6 +107,10 @@ walk at (l ∷ ls) =
     if trailerLine l then trailer at l (run folds ls) ∷ walk (at + length l) ls
     else walk (at + length l) ls
 
+-- "Handing on the rest of the body from its middle must read as if a line began there."
+abbrev pub walkFrom : List ℕ → ℕ → List Trailer
+walkFrom body at = walk at (lines (drop at body))
+
 -- "Named lookup: the first trailer whose token equals the asked one, ASCII case aside; an empty name is found nowhere."
 unfoldable pub asked : List ℕ → Trailer → Bool
 asked name t = filled name && same name (tokenOf t)

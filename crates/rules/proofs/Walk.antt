@@ -1,0 +1,84 @@
+-- The trailer walk by steps: from any position, the trailers behind the first are those of the walk from its end on, so the
+-- steps, taken until the end, give each trailer once and in order. Assumes nothing.
+use mathlib.Core.Bool.{Bool, true, false}
+use mathlib.Core.List.{List, [], _∷_, _++_, append-assoc}
+use mathlib.Core.Path.{_≡_, refl, sym, ap, _∙_}
+use Prim.Native.Nat.{ℕ, _+_, _≤_, _<_}
+use native.Mathlib.Omega.{arith}
+use lib.Dec.{T}
+use lib.ListN.{length, drop, drop-of-length-le, length-append, length-drop}
+use lib.Seq.{drop-at, drop-drop}
+use Rattle.rules.specs.Lines.{Line, lines, folds}
+use Rattle.rules.specs.Lists.{if_then_else_, All, filled, join, past, run}
+use Rattle.rules.specs.Trailer.{Trailer, trailer, trailerLine, placeOf, bytesOf, endOf, walk, walkFrom}
+use Rattle.rules.proofs.Lines.{filled-lines, join-lines, lines-suffix}
+use Rattle.rules.proofs.Lists.{filled-append, filled-some, join-append, run-past}
+use Rattle.rules.proofs.Trailer.{walk-trailer}
+
+-- where the first trailer of a walk ends among the lines
+record FirstOf (at : ℕ) (ls : List Line) (t : Trailer) (ts : List Trailer) : Type 0 where
+  passed : List Line
+  left : List Line
+  read : ls ≡ passed ++ left
+  end : endOf t ≡ at + length (join passed)
+  behind : walk (endOf t) left ≡ ts
+  later : at ≤ placeOf t
+  some : T (filled (bytesOf t))
+
+first-of : (at : ℕ) (ls : List Line) (t : Trailer) (ts : List Trailer) → All filled ls → walk at ls ≡ t ∷ ts → FirstOf at ls t ts
+first-of at [] t ts f e = let z : _≡_ {A = ℕ} 0 1 = cc in absurd (omega arith)
+first-of at (l ∷ ls) t ts f e = by (trailerLine l) refl (first-of (at + length l) ls t ts (f .1))
+  where
+    by : (b : Bool) → trailerLine l ≡ b → (walk (at + length l) ls ≡ t ∷ ts → FirstOf (at + length l) ls t ts) → FirstOf at (l ∷ ls) t ts
+    by true q more =
+        let end : ℕ = at + length l + length (join (run folds ls)) in
+        let h : trailer at l (run folds ls) ∷ walk end (past folds ls) ≡ t ∷ ts = sym (walk-trailer at end l ls (rw q tt) refl) ∙ e in
+        let here : trailer at l (run folds ls) ≡ t = cc in
+        let next : walk end (past folds ls) ≡ ts = cc in
+        let size : endOf (trailer at l (run folds ls)) ≡ end = omega (arith, length-append l (join (run folds ls))) in
+        rw (← here) (record {
+          passed = l ∷ run folds ls;
+          left = past folds ls;
+          read = rw (run-past folds ls);
+          end = refl;
+          behind = rw size next;
+          later = omega arith;
+          some = filled-append l (join (run folds ls)) (f .0);
+        })
+    by false q more =
+        let r : FirstOf (at + length l) ls t ts = more (rw q at e) in
+        record {
+          passed = l ∷ r .passed;
+          left = r .left;
+          read = ap (λ (x : List Line). l ∷ x) (r .read);
+          end = omega (arith, r .end, length-append l (join (r .passed)));
+          behind = r .behind;
+          later = omega (arith, r .later);
+          some = r .some;
+        }
+
+module _ (body : List ℕ) (at : ℕ) (t : Trailer) (ts : List Trailer) (e : walkFrom body at ≡ t ∷ ts) where
+  here : FirstOf at (lines (drop at body)) t ts
+  here = first-of at (lines (drop at body)) t ts (filled-lines (drop at body)) e
+
+  bytes-here : drop at body ≡ join (here .passed) ++ join (here .left)
+  bytes-here = sym (join-lines (drop at body)) ∙ ap join (here .read) ∙ join-append (here .passed) (here .left)
+
+  -- the trailers behind the first are those of the walk from its end on
+  pub walk-step : walkFrom body (endOf t) ≡ ts
+  walk-step =
+      let rest : drop (endOf t) body ≡ join (here .left) =
+      rw (here .end, ← (drop-drop (length (join (here .passed))) at body), bytes-here) (drop-at (join (here .passed)) (join (here .left)) (length (join (here .passed))) refl) in
+      rw (rest, lines-suffix (drop at body) (here .passed) (here .left) (here .read)) (here .behind)
+
+  -- it ends behind the position, and inside the body
+  pub walk-moves : at < endOf t
+  walk-moves = omega (arith, here .later, filled-some (bytesOf t) (here .some))
+
+  pub walk-within : endOf t ≤ length body
+  walk-within =
+      omega (arith, here .end, walk-moves, length-drop at body, ap length bytes-here, length-append (join (here .passed)) (join (here .left)))
+
+-- at the body's end no trailer is left
+pub walk-ends : (body : List ℕ) (at : ℕ) → length body ≤ at → walkFrom body at ≡ []
+walk-ends body at h = rw (drop-of-length-le body h)
