@@ -4,7 +4,7 @@ use mathlib.Core.Bool.{Bool, true, false, not, _&&_, _||_}
 use mathlib.Core.List.{List, [], _∷_, _++_, append-assoc, append-nil, nil≢cons}
 use mathlib.Core.Logic.{_⊎_, inl, inr}
 use mathlib.Core.Path.{_≡_, refl, sym, ap, _∙_}
-use Prim.Native.Nat.{ℕ, zero, suc, _+_, _-_, _≤_}
+use Prim.Native.Nat.{ℕ, zero, suc, _+_, _≤_}
 use native.Mathlib.Omega.{arith}
 use lib.Dec.{T, T-not, eqb, eqb→eq, eqb-refl}
 use lib.ListN.{length, take, drop, length-append}
@@ -105,11 +105,11 @@ nil-ends [] rest m e = form-filled [] m
 nil-ends (c ∷ f) [] m e = nil≢cons e
 nil-ends (c ∷ f) (d ∷ rest) m e = nil≢cons e
 
-starts-append : (f s : List ℕ) → T (starts f (f ++ s))
+pub starts-append : (f s : List ℕ) → T (starts f (f ++ s))
 starts-append [] s = tt
 starts-append (x ∷ f) s = and-both (eqb x x) (starts f (f ++ s)) (eqb-refl x) (starts-append f s)
 
-starts-is : (f s : List ℕ) → T (starts f s) → s ≡ f ++ drop (length f) s
+pub starts-is : (f s : List ℕ) → T (starts f s) → s ≡ f ++ drop (length f) s
 starts-is [] s t = refl
 starts-is (x ∷ f) [] t = absurd t
 starts-is (x ∷ f) (y ∷ s) t =
@@ -312,6 +312,11 @@ pub back-trimmed : (s : List ℕ) → BackTrimmed s (trimEnd s)
 unfolding trimEnd
 back-trimmed [] = ([], none, refl, nil-ends)
 back-trimmed (c ∷ s) = back-step (trimStart (c ∷ s)) s (trimEnd s) c refl (back-trimmed s)
+
+pub trimEnd-length : (s : List ℕ) → length (trimEnd s) ≤ length s
+trimEnd-length s =
+    let (back, w, q, n) = back-trimmed s in
+    omega (arith, simp length-append at (ap length q))
 
 pub trimEnd-step : (s f : List ℕ) → Form f → trimEnd (s ++ f) ≡ trimEnd s
 trimEnd-step s f m =

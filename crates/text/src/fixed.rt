@@ -1,0 +1,52 @@
+// Fixed byte strings: compared with a line's front, and without regard to ASCII case.
+ghost use mathlib.Core.Path.{_≡_};
+ghost use Rattle.rules.specs.Bytes.{lower};
+ghost use Rattle.rules.specs.Lists.{starts};
+ghost use Rattle.rules.specs.Trailer.{same};
+
+// Whether `s` starts with `p`.
+pub fn starts_with(s: &[u8], p: &[u8]) -> bool
+    ensures { λ r. ⌜ r ≡ starts (now (p .entry)) (now (s .entry)) ⌝ }
+{
+    if s.len() < p.len() {
+        return false;
+    }
+    let mut i = 0;
+    while i < p.len() {
+        if s[i] != p[i] {
+            return false;
+        }
+        i += 1;
+    }
+    true
+}
+
+// An ASCII capital as its small letter, every other byte as it is.
+pub fn to_ascii_lowercase(byte: u8) -> u8
+    ensures { λ r. ⌜ r ≡ lower byte ⌝ }
+{
+    if byte < b'A' {
+        return byte;
+    }
+    if byte > b'Z' {
+        return byte;
+    }
+    byte + 32
+}
+
+// Whether two byte strings are the same, ASCII case aside.
+pub fn eq_ignore_ascii_case(a: &[u8], b: &[u8]) -> bool
+    ensures { λ r. ⌜ r ≡ same (now (a .entry)) (now (b .entry)) ⌝ }
+{
+    if a.len() != b.len() {
+        return false;
+    }
+    let mut i = 0;
+    while i < a.len() {
+        if to_ascii_lowercase(a[i]) != to_ascii_lowercase(b[i]) {
+            return false;
+        }
+        i += 1;
+    }
+    true
+}
