@@ -32,6 +32,16 @@ pub struct BlockCursor {
     pub start: usize,
 }
 
+// Which trailers a step answers: all, or those of one of the original's five filters. It passes over the others.
+pub enum Filter {
+    All,
+    SignedOffBy,
+    CoAuthoredBy,
+    AssistedBy,
+    Attributions,
+    Authors,
+}
+
 // Why a call refuses; `NoRoom` has the exact length needed.
 pub enum Refusal {
     TooLong,
