@@ -12,4 +12,5 @@ pub mod Manual
 pub mod Places
 pub mod Division
 pub mod Blocks
+pub mod Answers
 pub mod Examples

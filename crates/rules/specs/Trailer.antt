@@ -12,7 +12,7 @@ use Rattle.rules.specs.Bytes.{bytes, colon, space, tokenByte, gapByte, l
 use Rattle.rules.specs.Lines.{Line, lines, folds}
 use Rattle.rules.specs.Lists.{if_then_else_, All, any, equal, filled, first, join, past, run}
 use Rattle.rules.specs.White.{trim}
-use Rattle.rules.specs.declared.Filter.{Filter}
+use Rattle.rules.specs.declared.Kind.{Kind}
 
 -- "A trailer line: one or more ASCII letters, digits or hyphens, then any spaces and tabs, then a colon. The token is the
 -- part before those spaces. A colon at index 0 makes none." Behind the colon stands the line's part of the value.
@@ -100,14 +100,17 @@ attribution token = any (same token) attributionTokens
 unfoldable pub author : List ℕ → Bool
 author token = any (same token) authorTokens
 
--- the original's five filters, and none: the tokens of the trailers that a step answers
-abbrev pub keeps : Filter → List ℕ → Bool
-keeps Filter.All token = true
-keeps Filter.SignedOffBy token = same token (bytes "Signed-off-by")
-keeps Filter.CoAuthoredBy token = same token (bytes "Co-authored-by")
-keeps Filter.AssistedBy token = same token (bytes "Assisted-by")
-keeps Filter.Attributions token = attribution token
-keeps Filter.Authors token = author token
+-- the tokens that a question, or a filter of the walk, is about
+abbrev pub isOf : Kind → List ℕ → Bool
+isOf Kind.All token = true
+isOf Kind.SignedOffBy token = same token (bytes "Signed-off-by")
+isOf Kind.CoAuthoredBy token = same token (bytes "Co-authored-by")
+isOf Kind.AssistedBy token = same token (bytes "Assisted-by")
+isOf Kind.AckedBy token = same token (bytes "Acked-by")
+isOf Kind.ReviewedBy token = same token (bytes "Reviewed-by")
+isOf Kind.TestedBy token = same token (bytes "Tested-by")
+isOf Kind.Attribution token = attribution token
+isOf Kind.Author token = author token
 
 -- "The trailer walk reads from the start to the end of the body. A line that begins no trailer is skipped alone."
 -- The lines are those from `at` on. An indented line begins no trailer, so those of a trailer are passed with it.
@@ -122,9 +125,9 @@ abbrev pub walkFrom : List ℕ → ℕ → List Trailer
 walkFrom body at = walk at (lines (drop at body))
 
 -- "filters are steps that pass over": the trailers that are left
-abbrev pub only : (List ℕ → Bool) → List Trailer → List Trailer
-only keep [] = []
-only keep (t ∷ ts) = if keep (tokenOf t) then t ∷ only keep ts else only keep ts
+abbrev pub only : Kind → List Trailer → List Trailer
+only kind [] = []
+only kind (t ∷ ts) = if isOf kind (tokenOf t) then t ∷ only kind ts else only kind ts
 
 -- "Named lookup: the first trailer whose token equals the asked one, ASCII case aside; an empty name is found nowhere."
 unfoldable pub asked : List ℕ → Trailer → Bool

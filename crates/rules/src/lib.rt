@@ -32,14 +32,17 @@ pub struct BlockCursor {
     pub start: usize,
 }
 
-// Which trailers a step answers: all, or those of one of the original's five filters. It passes over the others.
-pub enum Filter {
+// Which tokens a question or a filter is about: all, one of the six attribution tokens, any of them, or the authors'.
+pub enum Kind {
     All,
     SignedOffBy,
     CoAuthoredBy,
     AssistedBy,
-    Attributions,
-    Authors,
+    AckedBy,
+    ReviewedBy,
+    TestedBy,
+    Attribution,
+    Author,
 }
 
 // Why a call refuses; `NoRoom` has the exact length needed.

@@ -1,0 +1,26 @@
+-- The author and attribution tokens as a chain of comparisons, as the code makes them. Assumes nothing.
+use mathlib.Core.Bool.{Bool, true, false, _||_, or-false}
+use mathlib.Core.List.{List}
+use mathlib.Core.Path.{_≡_, refl}
+use Prim.Native.Nat.{ℕ}
+use Rattle.rules.specs.Bytes.{bytes}
+use Rattle.rules.specs.Trailer.{attribution, author, same}
+
+pub author-is : (token : List ℕ) → author token ≡ same token (bytes "Signed-off-by") || same token (bytes "Co-authored-by")
+unfolding author
+author-is token = rw (or-false (same token (bytes "Co-authored-by")))
+
+regroup : (a b c d e f : Bool) → a || (b || (c || (d || (e || (f || false))))) ≡ a || (b || false) || (c || (d || (e || f)))
+regroup true b c d e f = refl
+regroup false true c d e f = refl
+regroup false false true d e f = refl
+regroup false false false true e f = refl
+regroup false false false false true f = refl
+regroup false false false false false f = or-false f
+
+pub attribution-is : (token : List ℕ) → attribution token
+    ≡ author token || (same token (bytes "Assisted-by") || (same token (bytes "Acked-by") || (same token (bytes "Reviewed-by") || same token (bytes "Tested-by"))))
+unfolding attribution author
+attribution-is token =
+    regroup (same token (bytes "Signed-off-by")) (same token (bytes "Co-authored-by")) (same token (bytes "Assisted-by"))
+    (same token (bytes "Acked-by")) (same token (bytes "Reviewed-by")) (same token (bytes "Tested-by"))
