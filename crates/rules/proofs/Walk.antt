@@ -6,23 +6,31 @@ use mathlib.Core.Path.{_≡_, refl, sym, ap, _∙_}
 use Prim.Native.Nat.{ℕ, _+_, _≤_, _<_}
 use native.Mathlib.Omega.{arith}
 use lib.Dec.{T}
-use lib.ListN.{length, drop, drop-of-length-le, length-append, length-drop}
-use lib.Seq.{drop-at, drop-drop}
+use lib.ListN.{length, take, drop, drop-of-length-le, length-append, length-drop}
+use lib.Seq.{drop-at, drop-drop, take-at}
 use Rattle.rules.specs.Lines.{Line, lines, folds}
 use Rattle.rules.specs.Lists.{if_then_else_, All, filled, join, past, run}
-use Rattle.rules.specs.Trailer.{Trailer, trailer, trailerLine, placeOf, bytesOf, endOf, walk, walkFrom}
+use Rattle.rules.specs.Bytes.{colon}
+use Rattle.rules.specs.Trailer.{Trailer, trailer, trailerLine, tokenIn, gapIn, valueIn, placeOf, bytesOf, endOf, tokenOf, rawValue, rawValueAt, walk, walkFrom}
 use Rattle.rules.proofs.Lines.{filled-lines, join-lines, lines-suffix}
 use Rattle.rules.proofs.Lists.{filled-append, filled-some, join-append, run-past}
-use Rattle.rules.proofs.Trailer.{walk-trailer}
+use Rattle.rules.proofs.Trailer.{trailer-line, walk-trailer}
 
--- where the first trailer of a walk ends among the lines
+-- its first line is a trailer line
+abbrev IsTrailer : Trailer → Type 0
+IsTrailer (trailer at l js) = T (trailerLine l)
+
+-- where the first trailer of a walk stands among the lines: those ahead of it and its own are passed
 record FirstOf (at : ℕ) (ls : List Line) (t : Trailer) (ts : List Trailer) : Type 0 where
   passed : List Line
   left : List Line
   read : ls ≡ passed ++ left
   end : endOf t ≡ at + length (join passed)
   behind : walk (endOf t) left ≡ ts
-  later : at ≤ placeOf t
+  ahead : List ℕ
+  own : join passed ≡ ahead ++ bytesOf t
+  place : placeOf t ≡ at + length ahead
+  leading : IsTrailer t
   some : T (filled (bytesOf t))
 
 first-of : (at : ℕ) (ls : List Line) (t : Trailer) (ts : List Trailer) → All filled ls → walk at ls ≡ t ∷ ts → FirstOf at ls t ts
@@ -42,7 +50,10 @@ first-of at (l ∷ ls) t ts f e = by (trailerLine l) refl (first-of (at + length
           read = rw (run-past folds ls);
           end = refl;
           behind = rw size next;
-          later = omega arith;
+          ahead = [];
+          own = refl;
+          place = omega arith;
+          leading = rw q tt;
           some = filled-append l (join (run folds ls)) (f .0);
         })
     by false q more =
@@ -53,9 +64,37 @@ first-of at (l ∷ ls) t ts f e = by (trailerLine l) refl (first-of (at + length
           read = ap (λ (x : List Line). l ∷ x) (r .read);
           end = omega (arith, r .end, length-append l (join (r .passed)));
           behind = r .behind;
-          later = omega (arith, r .later);
+          ahead = l ++ r .ahead;
+          own = rw (r .own, append-assoc);
+          place = omega (arith, r .place, length-append l (r .ahead));
+          leading = r .leading;
           some = r .some;
         }
+
+-- a trailer's token and raw value stand in the body where its places say
+pub record Stands (body : List ℕ) (t : Trailer) : Type 0 where
+  pub token-at : take (length (tokenOf t)) (drop (placeOf t) body) ≡ tokenOf t
+  pub raw-ends : endOf t ≡ rawValueAt t + length (rawValue t)
+  pub raw-value-at : take (length (rawValue t)) (drop (rawValueAt t) body) ≡ rawValue t
+
+drop-split : (k n m : ℕ) → m ≡ k + n → (s : List ℕ) → drop m s ≡ drop n (drop k s)
+drop-split k n m e s = rw e (sym (drop-drop n k s))
+
+stands : (body : List ℕ) (t : Trailer) (left : List ℕ) → IsTrailer t → drop (placeOf t) body ≡ bytesOf t ++ left → Stands body t
+stands body (trailer k l js) left i e =
+    let read : l ≡ tokenIn l ++ (gapIn l ++ colon ∷ valueIn l) = trailer-line l i .read in
+    let front : List ℕ = tokenIn l ++ (gapIn l ++ (colon ∷ [])) in
+    let whole : drop k body ≡ front ++ ((valueIn l ++ join js) ++ left) = e ∙ ap (λ (x : List ℕ). (x ++ join js) ++ left) read ∙ simp append-assoc in
+    let size : length front ≡ length (tokenIn l) + length (gapIn l) + 1 = simp length-append (omega arith) in
+    let raw : drop (rawValueAt (trailer k l js)) body ≡ (valueIn l ++ join js) ++ left =
+    rw (drop-split k (length front) (rawValueAt (trailer k l js)) (omega arith), whole) (drop-at front ((valueIn l ++ join js) ++ left) (length front) refl) in
+    let ends : endOf (trailer k l js) ≡ rawValueAt (trailer k l js) + length (valueIn l ++ join js) =
+    omega (arith, length-append l (join js), length-append (valueIn l) (join js), simp length-append at (ap length read)) in
+    record {
+      token-at = rw (whole, append-assoc) (take-at (tokenIn l) (gapIn l ++ (colon ∷ []) ++ ((valueIn l ++ join js) ++ left)) (length (tokenIn l)) refl);
+      raw-ends = ends;
+      raw-value-at = rw raw (take-at (valueIn l ++ join js) left (length (valueIn l ++ join js)) refl);
+    }
 
 module _ (body : List ℕ) (at : ℕ) (t : Trailer) (ts : List Trailer) (e : walkFrom body at ≡ t ∷ ts) where
   here : FirstOf at (lines (drop at body)) t ts
@@ -73,11 +112,23 @@ module _ (body : List ℕ) (at : ℕ) (t : Trailer) (ts : List Trailer) (e : wal
 
   -- it ends behind the position, and inside the body
   pub walk-moves : at < endOf t
-  walk-moves = omega (arith, here .later, filled-some (bytesOf t) (here .some))
+  walk-moves = omega (arith, here .place, filled-some (bytesOf t) (here .some))
 
   pub walk-within : endOf t ≤ length body
   walk-within =
       omega (arith, here .end, walk-moves, length-drop at body, ap length bytes-here, length-append (join (here .passed)) (join (here .left)))
+
+  pub walk-place : at ≤ placeOf t
+  walk-place = omega (arith, here .place)
+
+  -- its bytes stand at its place
+  bytes-stand : drop (placeOf t) body ≡ bytesOf t ++ join (here .left)
+  bytes-stand =
+      rw (here .place, ← (drop-drop (length (here .ahead)) at body), bytes-here, here .own, append-assoc)
+      (drop-at (here .ahead) (bytesOf t ++ join (here .left)) (length (here .ahead)) refl)
+
+  pub walk-stands : Stands body t
+  walk-stands = stands body t (join (here .left)) (here .leading) bytes-stand
 
 -- at the body's end no trailer is left
 pub walk-ends : (body : List ℕ) (at : ℕ) → length body ≤ at → walkFrom body at ≡ []
