@@ -3,14 +3,14 @@
 use mathlib.Core.List.{List, [], _∷_, _++_}
 use mathlib.Core.Path.{_≡_, refl, sym, ap, _∙_}
 use Prim.Native.Nat.{ℕ, zero, suc}
-use Rattle.rules.specs.Answers.{Said, says, valueSays, titleSays, summarySays, startSays, trailerStepSays, trailerFoundSays, blockStepSays, yesNoSays, walkFoundSays}
+use Rattle.rules.specs.Answers.{Said, says, valueSays, titleSays, valueFoundSays, startSays, trailerStepSays, trailerFoundSays, blockStepSays, yesNoSays, walkFoundSays}
 use Rattle.rules.specs.declared.BlockCursor.{BlockCursor}
 use Rattle.rules.specs.declared.BlockStep.{BlockStep}
 use Rattle.rules.specs.declared.Cursor.{Cursor}
 use Rattle.rules.specs.declared.Part.{Part}
 use Rattle.rules.specs.declared.Refusal.{Refusal}
 use Rattle.rules.specs.declared.StartFound.{StartFound}
-use Rattle.rules.specs.declared.Summarised.{Summarised}
+use Rattle.rules.specs.declared.ValueFound.{ValueFound}
 use Rattle.rules.specs.declared.TitleAndBody.{TitleAndBody}
 use Rattle.rules.specs.declared.TrailerFound.{TrailerFound}
 use Rattle.rules.specs.declared.TrailerRef.{TrailerRef}
@@ -65,22 +65,22 @@ title-back (TitleAndBody.Refused (Refusal.NoRoom n)) = refl
 pub title-decides : Decides titleSays
 title-decides = decides titleSays title title-back
 
-abbrev summary : Said → Summarised
-summary (says (suc n) values) = Summarised.Refused (refusal n values)
-summary (says zero []) = Summarised.Refused Refusal.TooLong
-summary (says zero (w ∷ [])) = Summarised.Refused Refusal.TooLong
-summary (says zero (w ∷ s ∷ [])) = Summarised.Refused Refusal.TooLong
-summary (says zero (w ∷ s ∷ e ∷ rest)) = Summarised.As (value w s e)
+abbrev valueFound : Said → ValueFound
+valueFound (says (suc n) values) = ValueFound.Refused (refusal n values)
+valueFound (says zero []) = ValueFound.Refused Refusal.TooLong
+valueFound (says zero (w ∷ [])) = ValueFound.Refused Refusal.TooLong
+valueFound (says zero (w ∷ s ∷ [])) = ValueFound.Refused Refusal.TooLong
+valueFound (says zero (w ∷ s ∷ e ∷ rest)) = ValueFound.At (value w s e)
 
-summary-back : (a : Summarised) → summary (summarySays a) ≡ a
-summary-back (Summarised.As (Value.InInput p)) = refl
-summary-back (Summarised.As (Value.InBuffer p)) = refl
-summary-back (Summarised.Refused Refusal.TooLong) = refl
-summary-back (Summarised.Refused Refusal.BadPlace) = refl
-summary-back (Summarised.Refused (Refusal.NoRoom n)) = refl
+valueFound-back : (a : ValueFound) → valueFound (valueFoundSays a) ≡ a
+valueFound-back (ValueFound.At (Value.InInput p)) = refl
+valueFound-back (ValueFound.At (Value.InBuffer p)) = refl
+valueFound-back (ValueFound.Refused Refusal.TooLong) = refl
+valueFound-back (ValueFound.Refused Refusal.BadPlace) = refl
+valueFound-back (ValueFound.Refused (Refusal.NoRoom n)) = refl
 
-pub summary-decides : Decides summarySays
-summary-decides = decides summarySays summary summary-back
+pub value-found-decides : Decides valueFoundSays
+value-found-decides = decides valueFoundSays valueFound valueFound-back
 
 abbrev start : Said → StartFound
 start (says (suc n) values) = StartFound.Refused (refusal n values)

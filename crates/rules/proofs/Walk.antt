@@ -74,6 +74,7 @@ first-of at (l ∷ ls) t ts f e = by (trailerLine l) refl (first-of (at + length
 -- a trailer's token and raw value stand in the body where its places say
 pub record Stands (body : List ℕ) (t : Trailer) : Type 0 where
   pub token-at : take (length (tokenOf t)) (drop (placeOf t) body) ≡ tokenOf t
+  pub token-ends : placeOf t + length (tokenOf t) < rawValueAt t
   pub raw-ends : endOf t ≡ rawValueAt t + length (rawValue t)
   pub raw-value-at : take (length (rawValue t)) (drop (rawValueAt t) body) ≡ rawValue t
 
@@ -92,6 +93,7 @@ stands body (trailer k l js) left i e =
     omega (arith, length-append l (join js), length-append (valueIn l) (join js), simp length-append at (ap length read)) in
     record {
       token-at = rw (whole, append-assoc) (take-at (tokenIn l) (gapIn l ++ (colon ∷ []) ++ ((valueIn l ++ join js) ++ left)) (length (tokenIn l)) refl);
+      token-ends = omega arith;
       raw-ends = ends;
       raw-value-at = rw raw (take-at (valueIn l ++ join js) left (length (valueIn l ++ join js)) refl);
     }

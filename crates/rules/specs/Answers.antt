@@ -13,7 +13,7 @@ use Rattle.rules.specs.declared.Cursor.{Cursor}
 use Rattle.rules.specs.declared.Part.{Part}
 use Rattle.rules.specs.declared.Refusal.{Refusal}
 use Rattle.rules.specs.declared.StartFound.{StartFound}
-use Rattle.rules.specs.declared.Summarised.{Summarised}
+use Rattle.rules.specs.declared.ValueFound.{ValueFound}
 use Rattle.rules.specs.declared.TitleAndBody.{TitleAndBody}
 use Rattle.rules.specs.declared.TrailerFound.{TrailerFound}
 use Rattle.rules.specs.declared.TrailerRef.{TrailerRef}
@@ -76,9 +76,9 @@ titleSays (TitleAndBody.Body end start) = says 0 (end ∷ start ∷ [])
 titleSays (TitleAndBody.NoBody end) = says 0 (end ∷ [])
 titleSays (TitleAndBody.Refused r) = refused r
 
-abbrev pub summarySays : Summarised → Said
-summarySays (Summarised.As v) = says 0 (valueSays v)
-summarySays (Summarised.Refused r) = refused r
+abbrev pub valueFoundSays : ValueFound → Said
+valueFoundSays (ValueFound.At v) = says 0 (valueSays v)
+valueFoundSays (ValueFound.Refused r) = refused r
 
 abbrev pub startSays : StartFound → Said
 startSays (StartFound.At k) = says 0 (k ∷ [])

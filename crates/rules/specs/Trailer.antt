@@ -130,9 +130,9 @@ only kind [] = []
 only kind (t ∷ ts) = if isOf kind (tokenOf t) then t ∷ only kind ts else only kind ts
 
 -- "Named lookup: the first trailer whose token equals the asked one, ASCII case aside; an empty name is found nowhere."
-unfoldable pub asked : List ℕ → Trailer → Bool
-asked name t = filled name && same name (tokenOf t)
+unfoldable pub asked : List ℕ → List ℕ → Bool
+asked name token = filled name && same name token
 
 abbrev pub lookup : List ℕ → List Trailer → Option Trailer
 lookup name [] = none
-lookup name (t ∷ ts) = if asked name t then some t else lookup name ts
+lookup name (t ∷ ts) = if asked name (tokenOf t) then some t else lookup name ts

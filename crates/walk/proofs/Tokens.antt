@@ -1,10 +1,12 @@
--- The author and attribution tokens as a chain of comparisons, as the code makes them. Assumes nothing.
+-- The tokens that are asked for, as a chain of tests that the code makes. Assumes nothing.
 use mathlib.Core.Bool.{Bool, true, false, _||_, or-false}
-use mathlib.Core.List.{List}
+use mathlib.Core.List.{List, [], _∷_}
 use mathlib.Core.Path.{_≡_, refl}
 use Prim.Native.Nat.{ℕ}
+use native.Mathlib.Omega.{arith}
+use lib.ListN.{length}
 use Rattle.rules.specs.Bytes.{bytes}
-use Rattle.rules.specs.Trailer.{attribution, author, same}
+use Rattle.rules.specs.Trailer.{asked, attribution, author, same}
 
 pub author-is : (token : List ℕ) → author token ≡ same token (bytes "Signed-off-by") || same token (bytes "Co-authored-by")
 unfolding author
@@ -24,3 +26,13 @@ unfolding attribution author
 attribution-is token =
     regroup (same token (bytes "Signed-off-by")) (same token (bytes "Co-authored-by")) (same token (bytes "Assisted-by"))
     (same token (bytes "Acked-by")) (same token (bytes "Reviewed-by")) (same token (bytes "Tested-by"))
+
+pub asked-empty : (name token : List ℕ) → length name ≡ 0 → asked name token ≡ false
+unfolding asked
+asked-empty [] token e = refl
+asked-empty (c ∷ name) token e = absurd (omega arith)
+
+pub asked-some : (name token : List ℕ) → (length name ≡ 0 → ⊥) → asked name token ≡ same name token
+unfolding asked
+asked-some [] token n = absurd (n refl)
+asked-some (c ∷ name) token n = refl

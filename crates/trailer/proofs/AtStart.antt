@@ -1,0 +1,85 @@
+-- What `trailer_at_start` answers, by what `parse_trailer_line` answers of all that is handed on. Assumes nothing.
+use mathlib.Core.Bool.{Bool, true, false}
+use mathlib.Core.List.{List, [], _∷_, _++_}
+use mathlib.Core.Path.{_≡_, refl, sym, ap, _∙_}
+use Prim.Native.Nat.{ℕ, _+_, _-_, _≤_, _<_}
+use native.Mathlib.Omega.{arith}
+use lib.Dec.{T}
+use lib.ListN.{length, take, drop, length-append, length-drop}
+use Rattle.rules.specs.Lines.{Line, folds, lines}
+use Rattle.rules.specs.Lists.{if_then_else_, join, past, run}
+use Rattle.rules.specs.Trailer.{named, trailerLine, tokenIn, gapIn}
+use Rattle.rules.proofs.Lines.{join-lines}
+use Rattle.rules.proofs.Lists.{join-append, run-past}
+use Rattle.rules.proofs.Trailer.{trailer-line}
+use Rattle.text.specs.Lines.{firstLength}
+use Rattle.text.proofs.Lines.{first-line, first-within}
+use Rattle.text.proofs.Parts.{rest}
+use Rattle.trailer.specs.Line.{atStart, parsed}
+use Rattle.trailer.specs.declared.line.TrailerAtStart.{TrailerAtStart}
+use Rattle.trailer.specs.declared.line.TrailerLine.{TrailerLine}
+use Rattle.trailer.proofs.Parsed.{parsed-front}
+
+folds-within : (ls : List Line) → length (join (run folds ls)) ≤ length (join ls)
+folds-within ls =
+    let cut : join (run folds ls) ++ join (past folds ls) ≡ join ls =
+    sym (join-append (run folds ls) (past folds ls)) ∙ ap join (run-past folds ls) in
+    omega (arith, simp length-append at (ap length cut))
+
+pub length-within : (s : List ℕ) (n k : ℕ) → n ≡ firstLength (lines s)
+    → k ≡ length (join (run folds (lines (take (length s - n) (drop n s))))) → n + k ≤ length s
+length-within s n k e q =
+    let within : k ≤ length (drop n s) = rw (q, rest s n) (rw (join-lines (drop n s)) at (folds-within (lines (drop n s)))) in
+    omega (arith, e, within, first-within s, length-drop n s)
+
+-- the first line's answer, with the length of the trailer
+abbrev withLength : TrailerLine → ℕ → TrailerAtStart
+withLength (TrailerLine.At token separator) len = TrailerAtStart.Trailer token separator len
+withLength TrailerLine.NoTrailer len = TrailerAtStart.NoTrailer
+
+either-way : (b : Bool) (token separator len : ℕ)
+    → (if b then TrailerAtStart.Trailer token separator len else TrailerAtStart.NoTrailer)
+    ≡ withLength (if b then TrailerLine.At token separator else TrailerLine.NoTrailer) len
+either-way true token separator len = refl
+either-way false token separator len = refl
+
+at-start-by : (s : List ℕ) (n : ℕ) → n ≡ firstLength (lines s)
+    → atStart (lines s) ≡ withLength (parsed s) (n + length (join (run folds (lines (take (length s - n) (drop n s))))))
+unfolding atStart parsed trailerLine named
+at-start-by [] n e = refl
+at-start-by (c ∷ s) n e =
+    let l : Line = take n (c ∷ s) in
+    let ls : List Line = lines (drop n (c ∷ s)) in
+    let cut : lines (c ∷ s) ≡ l ∷ ls = rw e (first-line (c ∷ s) (omega arith)) in
+    let size : length l ≡ n = sym (e ∙ ap firstLength cut) in
+    rw (rest (c ∷ s) n, parsed-front (c ∷ s) l ls cut, cut) (rw size (either-way (trailerLine l) (length (tokenIn l)) (length (tokenIn l) + length (gapIn l)) (n + length (join (run folds ls)))))
+
+pub no-trailer-there : (s : List ℕ) → parsed s ≡ TrailerLine.NoTrailer → atStart (lines s) ≡ TrailerAtStart.NoTrailer
+no-trailer-there s p = at-start-by s (firstLength (lines s)) refl ∙ rw p
+
+pub trailer-there : (s : List ℕ) {token separator : ℕ} (n : ℕ) → parsed s ≡ TrailerLine.At token separator → n ≡ firstLength (lines s)
+    → atStart (lines s) ≡ TrailerAtStart.Trailer token separator (n + length (join (run folds (lines (take (length s - n) (drop n s))))))
+trailer-there s n p e = at-start-by s n e ∙ rw p
+
+-- ---- the places lie in order, inside of what is handed on
+
+abbrev pub Within : ℕ → TrailerAtStart → Type 0
+Within n (TrailerAtStart.Trailer token separator len) = (token ≤ separator) × (separator < len) × (len ≤ n)
+Within n TrailerAtStart.NoTrailer = Unit {0}
+
+colon-within : (l : Line) → T (trailerLine l) → length (tokenIn l) + length (gapIn l) < length l
+colon-within l t = omega (arith, simp length-append at (ap length (trailer-line l t .read)))
+
+pub start-within : (s : List ℕ) → Within (length s) (atStart (lines s))
+unfolding atStart
+start-within s = of (lines s) (join-lines s)
+  where
+    of : (ls : List Line) → join ls ≡ s → Within (length s) (atStart ls)
+    of [] e = tt
+    of (l ∷ ls) e = by (trailerLine l) refl
+      where
+        by : (b : Bool) → trailerLine l ≡ b → Within (length s) (atStart (l ∷ ls))
+        by true q =
+            let size : length l + length (join ls) ≡ length s = sym (length-append l (join ls)) ∙ ap length e in
+            rw q (omega arith, omega (arith, colon-within l (rw q tt)), omega (arith, folds-within ls))
+        by false q = rw q tt

@@ -1,0 +1,6 @@
+-- Laws of trailer lines, for this crate and those who call it.
+pub mod Runs
+pub mod Parsed
+pub mod ByLines
+pub mod AtStart
+pub mod Steps

@@ -1,0 +1,62 @@
+-- `trailer::line::trailer_at_start` meets its contract. Assumes nothing.
+use mathlib.Core.Path.{sym, _∙_}
+use native.Mathlib.Omega.{arith}
+use borrow.Author.Needs.{needs}
+use Rattle.text.proofs.Lines.{first-within}
+use Rattle.trailer.proofs.AtStart.{length-within, no-trailer-there, trailer-there}
+use Rattle.trailer.proofs.line.trailer_at_start.Statement.{statement}
+use Rattle.trailer.proofs.line.trailer_at_start.Tie as tie
+
+parse-trailer-line-requires : tie.Need-parse-trailer-line-requires
+parse-trailer-line-requires c κs = search needs
+
+enum-known-token-end : tie.Need-enum-known-token-end
+enum-known-token-end c = search needs
+
+enum-told : tie.Need-enum-told
+enum-told c = search needs
+
+returns : tie.Need-returns
+returns c = sym (no-trailer-there _ (sym (c .before .before .parse-trailer-line .ensures) ∙ c .enum-told .given .1))
+
+line-len-requires : tie.Need-line-len-requires
+line-len-requires c κs = search needs
+
+sub-folds-len : tie.Need-sub-folds-len
+sub-folds-len c = omega (arith, c .line-len .ensures, first-within (c .before .before .before .before .before .before .args .cursor .now))
+
+part-folds-len-start : tie.Need-part-folds-len-start
+part-folds-len-start c = omega (arith, c .line-len .ensures, first-within (c .before .before .before .before .before .before .args .cursor .now))
+
+part-folds-len-end : tie.Need-part-folds-len-end
+part-folds-len-end c = search needs
+
+folds-len-requires : tie.Need-folds-len-requires
+folds-len-requires c κs = search needs
+
+add-len : tie.Need-add-len
+add-len c =
+    let s = c .before .before .before .before .before .before .before .before .args .cursor .now in
+    omega (arith, length-within s _ _ (c .before .before .line-len .ensures) (c .folds-len .ensures))
+
+returns-2 : tie.Need-returns-2
+returns-2 c =
+    let line = c .before .before .before .before in
+    let there = sym (line .before .before .parse-trailer-line .ensures) ∙ line .token-end .given .1 in
+    sym (trailer-there _ _ there (c .before .before .line-len .ensures) ∙ rw (← c .folds-len .ensures))
+
+pub trailer-at-start-spec : {M : Type 1} → statement M
+trailer-at-start-spec =
+    tie.close
+    (tie.spec
+    parse-trailer-line-requires
+    enum-known-token-end
+    enum-told
+    returns
+    line-len-requires
+    sub-folds-len
+    part-folds-len-start
+    part-folds-len-end
+    folds-len-requires
+    add-len
+    returns-2)

@@ -1,0 +1,133 @@
+-- `trailer::walk::next_trailer_from` meets its contract. The invariant: the first trailer from `start` on is the first from `at` on.
+-- Assumes nothing.
+use mathlib.Core.Path.{_≡_, sym, _∙_}
+use Prim.Native.Nat.{_-_, _≤_}
+use native.Mathlib.Omega.{arith}
+use borrow.Author.Needs.{needs}
+use lib.ListN.{length, take, drop}
+use Rattle.rules.specs.Lines.{lines}
+use Rattle.rules.specs.Trailer.{walkFrom}
+use Rattle.trailer.specs.Line.{atStart}
+use Rattle.trailer.specs.Walk.{nextOf}
+use Rattle.trailer.specs.declared.line.TrailerAtStart.{TrailerAtStart}
+use Rattle.trailer.proofs.ByLines.{line-some, line-within}
+use Rattle.trailer.proofs.Steps.{next-skips, next-found, found-within, next-ends}
+use Rattle.trailer.proofs.walk.next_trailer_from.Statement.{statement}
+use Rattle.trailer.proofs.walk.next_trailer_from.Tie as tie
+
+abbrev Inv-loop : tie.InvT-loop
+Inv-loop body at start₀ start =
+    (start ≤ length body) × (nextOf (walkFrom body at) ≡ nextOf (walkFrom body start))
+
+abbrev μ-loop : tie.MeasureT-loop
+μ-loop body at start₀ start = length body - start
+
+loop-holds : tie.Need-loop-holds Inv-loop μ-loop
+loop-holds c = search needs
+
+sub-trailer-at-start : tie.Need-sub-trailer-at-start Inv-loop μ-loop
+sub-trailer-at-start c = search needs
+
+part-trailer-at-start-start : tie.Need-part-trailer-at-start-start Inv-loop μ-loop
+part-trailer-at-start-start c = search needs
+
+part-trailer-at-start-end : tie.Need-part-trailer-at-start-end Inv-loop μ-loop
+part-trailer-at-start-end c = search needs
+
+trailer-at-start-requires : tie.Need-trailer-at-start-requires Inv-loop μ-loop
+trailer-at-start-requires c κs = search needs
+
+enum-known-token-end : tie.Need-enum-known-token-end Inv-loop μ-loop
+enum-known-token-end c = search needs
+
+-- the trailer that was found, and its places
+found : (c : tie.After-known-told Inv-loop μ-loop) → let l = c .before .before .before .before .before .before in
+    atStart (lines (take (length (l .before .before .args .body .now) - l .loop .start) (drop (l .loop .start) (l .before .before .args .body .now))))
+    ≡ TrailerAtStart.Trailer (c .before .token-end .given .0 .0) (c .before .token-end .given .0 .1 .0) (c .before .token-end .given .0 .1 .1 .0)
+found c = sym (c .before .before .before .trailer-at-start .ensures) ∙ c .before .token-end .given .1
+
+add-t13 : tie.Need-add-t13 Inv-loop μ-loop
+add-t13 c =
+    let l = c .before .before .before .before .before .before in
+    omega (arith, found-within (l .before .before .args .body .now) (l .loop .start) (omega arith) (found c))
+
+add-t14 : tie.Need-add-t14 Inv-loop μ-loop
+add-t14 c =
+    let l = c .before .before .before .before .before .before in
+    omega (arith, found-within (l .before .before .args .body .now) (l .loop .start) (omega arith) (found c))
+
+add-t15 : tie.Need-add-t15 Inv-loop μ-loop
+add-t15 c =
+    let l = c .before .before .before .before .before .before in
+    omega (arith, found-within (l .before .before .args .body .now) (l .loop .start) (omega arith) (found c))
+
+returns : tie.Need-returns Inv-loop μ-loop
+returns c =
+    let l = c .before .before .before .before .before .before in
+    sym (l .loop .inv .1 ∙ next-found (l .before .before .args .body .now) (l .loop .start) (omega arith) (found c))
+
+enum-told : tie.Need-enum-told Inv-loop μ-loop
+enum-told c = search needs
+
+sub-line-len : tie.Need-sub-line-len Inv-loop μ-loop
+sub-line-len c = search needs
+
+part-line-len-start : tie.Need-part-line-len-start Inv-loop μ-loop
+part-line-len-start c = search needs
+
+part-line-len-end : tie.Need-part-line-len-end Inv-loop μ-loop
+part-line-len-end c = search needs
+
+line-len-requires : tie.Need-line-len-requires Inv-loop μ-loop
+line-len-requires c κs = search needs
+
+add-start : tie.Need-add-start Inv-loop μ-loop
+add-start c =
+    let l = c .before .before .before .before .before .before .before in
+    omega (arith, line-within (l .before .before .args .body .now) (l .loop .start) _ (omega arith) (c .line-len .ensures))
+
+loop-less : tie.Need-loop-less Inv-loop μ-loop
+loop-less c =
+    let l = c .before .before .before .before .before .before .before in
+    let s = l .before .before .args .body .now in
+    let e = c .line-len .ensures in
+    omega (arith, line-some s (l .loop .start) _ (omega arith) e, line-within s (l .loop .start) _ (omega arith) e)
+
+loop-again : tie.Need-loop-again Inv-loop μ-loop
+loop-again c =
+    let l = c .before .before .before .before .before .before .before in
+    let s = l .before .before .args .body .now in
+    let e = c .line-len .ensures in
+    let none = sym (c .before .before .before .before .trailer-at-start .ensures) ∙ c .before .before .enum-told .given .1 in (
+      line-within s (l .loop .start) _ (omega arith) e,
+      l .loop .inv .1 ∙ next-skips s (l .loop .start) (omega arith) _ none e,
+    )
+
+returns-2 : tie.Need-returns-2 Inv-loop μ-loop
+returns-2 c = sym (c .before .loop .inv .1 ∙ next-ends _ _ (c .loop-test .left))
+
+pub next-trailer-from-spec : {M : Type 1} → statement M
+next-trailer-from-spec =
+    tie.close
+    (tie.spec
+    Inv-loop
+    μ-loop
+    loop-holds
+    sub-trailer-at-start
+    part-trailer-at-start-start
+    part-trailer-at-start-end
+    trailer-at-start-requires
+    enum-known-token-end
+    add-t13
+    add-t14
+    add-t15
+    returns
+    enum-told
+    sub-line-len
+    part-line-len-start
+    part-line-len-end
+    line-len-requires
+    add-start
+    loop-less
+    loop-again
+    returns-2)

@@ -1,0 +1,44 @@
+// The trailer walk, by steps over the lines.
+ghost use mathlib.Core.Path.{_≡_};
+ghost use Prim.Native.Nat.{_≤_};
+ghost use lib.ListN.{length};
+ghost use Rattle.rules.specs.Trailer.{walkFrom};
+ghost use Rattle.trailer.specs.Walk.{nextOf};
+use crate::line::TrailerAtStart;
+use crate::line::trailer_at_start;
+use text::line::line_len;
+
+// Of `next_trailer_from`: where the trailer starts, where its token ends, where its colon stands, and where it ends.
+pub enum NextTrailer {
+    Trailer {
+        start: usize,
+        token_end: usize,
+        separator: usize,
+        end: usize,
+    },
+    End,
+}
+
+// The first trailer of the walk from `at` on: each line that begins no trailer is skipped alone.
+pub fn next_trailer_from(body: &[u8], at: usize) -> NextTrailer
+    requires { ⌜ at ≤ length (now body) ⌝ }
+    ensures { λ r. ⌜ r ≡ nextOf (walkFrom (now (body .entry)) at) ⌝ }
+{
+    let mut start = at;
+    while start < body.len() {
+        if let TrailerAtStart::Trailer {
+            token_end,
+            separator,
+            len,
+        } = trailer_at_start(&body[start..]) {
+            return NextTrailer::Trailer {
+                start,
+                token_end: start + token_end,
+                separator: start + separator,
+                end: start + len,
+            };
+        }
+        start += line_len(&body[start..]);
+    }
+    NextTrailer::End
+}
