@@ -1,4 +1,4 @@
--- A form at the end of an input. What the length found has to do with the forms is proved (proofs/White, form-end).
+-- A form at the end of an input. What the length found has to do with the forms is proved (proofs/Scan, form-end).
 use mathlib.Core.Bool.{Bool}
 use mathlib.Core.List.{List}
 use Prim.Native.Nat.{ℕ, _-_}

@@ -31,7 +31,7 @@ fn is_white_2(s: &[u8]) -> bool
     s[0] == 0xc2 && (b == 0x85 || b == 0xa0)
 }
 
-// Whether a form of three bytes is at the front: U+1680, U+3000, and those that begin with 0xe2.
+// Whether a form of three bytes is at the front: U+1680, U+3000, and those of `is_white_e2`.
 fn is_white_3(s: &[u8]) -> bool
     ensures { λ r. ⌜ r ≡ eqb (formAt (now (s .entry))) 3 ⌝ }
 {
@@ -124,7 +124,7 @@ pub fn trim_start(s: &[u8]) -> usize
     at
 }
 
-// Where the forms at the end begin.
+// How many bytes are left without the forms at the end.
 pub fn trim_end(s: &[u8]) -> usize
     ensures { λ r. ⌜ r ≡ length (trimEnd (now (s .entry))) ⌝ }
 {
@@ -139,7 +139,7 @@ pub fn trim_end(s: &[u8]) -> usize
     0
 }
 
-// What is kept, without the forms at both ends; nothing is kept at the front.
+// The part without the forms at both ends; where nothing is left, the empty part at the front.
 pub fn trim(s: &[u8]) -> Part
     ensures { λ r. ⌜ (r .start ≡ trimAt (now (s .entry))) × (r .end ≡ trimAt (now (s .entry)) + length (trim (now (s .entry)))) ⌝ }
 {

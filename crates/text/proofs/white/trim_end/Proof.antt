@@ -10,6 +10,9 @@ use Rattle.rules.proofs.White.{trimEnd-length}
 use Rattle.text.proofs.Scan.{formEnd-fits, end-turn, end-stop}
 use Rattle.text.proofs.white.trim_end.Statement.{statement}
 use Rattle.text.proofs.white.trim_end.Tie as tie
+use Rattle.text.proofs.white.trim_end.Reads as reads
+use Rattle.text.proofs.white.trim_end.Lts as lts
+use Rattle.text.proofs.white.white_len_last.Reads as white-len-last-reads
 
 abbrev Inv-loop : tie.InvT-loop
 Inv-loop s end₀ end = (end ≤ length s) × (trimEnd s ≡ trimEnd (take end s))
@@ -29,34 +32,32 @@ slice-aggregate-white-len-last c =
 white-len-last-requires : tie.Need-white-len-last-requires Inv-loop μ-loop
 white-len-last-requires c κs = search needs
 
+-- the form that is found before `end` is within the input
+found : (c : lts.After-white-len-last (white-len-last-reads.Asked, white-len-last-reads.Learnt) reads.Pre reads.Post Inv-loop μ-loop)
+    → c .white-len-last .result ≤ c .before .before .before .loop .end
+found c =
+    let s = c .before .before .before .before .before .args .s .now in
+    let end = c .before .before .before .loop .end in
+    omega (arith, formEnd-fits (take end s), length-take-le end s (omega arith), c .white-len-last .ensures)
+
 returns : tie.Need-returns Inv-loop μ-loop
 returns c =
-    let s = c .before .before .before .before .before .before .args .s .now in
-    let end = c .before .before .before .before .loop .end in
-    let h : end ≤ length s = omega arith in
-    end-stop s end h (c .before .before .before .before .loop .inv .1) (sym (c .before .white-len-last .ensures) ∙ c .if1 .taken)
+    let before = c .before .before .before .before in
+    end-stop (before .before .before .args .s .now) (before .loop .end) (omega arith) (before .loop .inv .1)
+    (sym (c .before .white-len-last .ensures) ∙ c .if1 .taken)
 
 sub-end : tie.Need-sub-end Inv-loop μ-loop
-sub-end c =
-    let s = c .before .before .before .before .before .before .args .s .now in
-    let end = c .before .before .before .before .loop .end in
-    let h : end ≤ length s = omega arith in
-    omega (arith, formEnd-fits (take end s), length-take-le end s h, c .before .white-len-last .ensures)
+sub-end c = found (c .before)
 
 loop-less : tie.Need-loop-less Inv-loop μ-loop
-loop-less c =
-    let s = c .before .before .before .before .before .before .args .s .now in
-    let end = c .before .before .before .before .loop .end in
-    let h : end ≤ length s = omega arith in
-    omega (arith, formEnd-fits (take end s), length-take-le end s h, c .before .white-len-last .ensures)
+loop-less c = omega (arith, found (c .before))
 
 loop-again : tie.Need-loop-again Inv-loop μ-loop
 loop-again c =
-    let s = c .before .before .before .before .before .before .args .s .now in
-    let end = c .before .before .before .before .loop .end in
+    let before = c .before .before .before .before in
+    let s = before .before .before .args .s .now in
     let k = c .before .white-len-last .result in
-    let h : end ≤ length s = omega arith in
-    (omega arith, c .before .before .before .before .loop .inv .1 ∙ end-turn s end k h (c .before .white-len-last .ensures))
+    (omega arith, before .loop .inv .1 ∙ end-turn s (before .loop .end) k (omega arith) (c .before .white-len-last .ensures))
 
 returns-2 : tie.Need-returns-2 Inv-loop μ-loop
 returns-2 c =
