@@ -1,3 +1,5 @@
--- Laws of lines and of parts, for those who call this crate.
+-- Laws of lines, of parts and of white space, for those who call this crate.
 pub mod Lines
 pub mod Parts
+pub mod Forms
+pub mod Scan
