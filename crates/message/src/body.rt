@@ -2,13 +2,18 @@
 ghost use mathlib.Core.Path.{_≡_};
 ghost use Prim.Native.Nat.{_-_};
 ghost use lib.ListN.{length, take, drop};
-ghost use Rattle.rules.specs.Answers.{yesNoSays};
+ghost use Rattle.rules.specs.Answers.{blockStepSays, startSays, yesNoSays};
 ghost use Rattle.rules.specs.declared.Kind.{Kind};
-ghost use Rattle.message.specs.Body.{partOf, questionAnswer, viewOf};
+ghost use Rattle.message.specs.Body.{blockAnswer, partOf, questionAnswer, startAnswer, viewOf};
+use block::walk::NextBlock;
+use block::walk::next_block_from;
+use rules::BlockCursor;
+use rules::BlockStep;
 use rules::Kind;
 use rules::LIMIT;
 use rules::Part;
 use rules::Refusal;
+use rules::StartFound;
 use rules::Value;
 use rules::YesNo;
 
@@ -41,7 +46,7 @@ fn ask(input: &[u8], token: Part, kind: Kind) -> YesNo
 {
     let start = token.start;
     let end = token.end;
-    if LIMIT < input.len() {
+    if input.len() > LIMIT {
         return YesNo::Refused(Refusal::TooLong);
     }
     if end < start {
@@ -103,4 +108,46 @@ pub fn is_attribution(input: &[u8], token: Part) -> YesNo
     ensures { λ r. ⌜ yesNoSays r ≡ questionAnswer Kind.Attribution (now (input .entry)) (token .start) (token .end) ⌝ }
 {
     ask(input, token, Kind::Attribution)
+}
+
+// Where the trailer block of `body` starts; the body's length where it has none.
+pub fn trailer_block_start(body: &[u8]) -> StartFound
+    ensures { λ r. ⌜ startSays r ≡ startAnswer (now (body .entry)) ⌝ }
+{
+    if body.len() > LIMIT {
+        return StartFound::Refused(Refusal::TooLong);
+    }
+    StartFound::At(block::paragraph::trailer_block_start(body))
+}
+
+// The next block from the cursor on: a message, and the trailers following it.
+pub fn next_block(body: &[u8], cursor: BlockCursor) -> BlockStep
+    ensures { λ r. ⌜ blockStepSays r ≡ blockAnswer (now (body .entry)) (cursor .at) (cursor .start) ⌝ }
+{
+    let at = cursor.at;
+    let start = cursor.start;
+    let len = body.len();
+    if len > LIMIT {
+        return BlockStep::Refused(Refusal::TooLong);
+    }
+    if len < at {
+        return BlockStep::Refused(Refusal::BadPlace);
+    }
+    if len < start {
+        return BlockStep::Refused(Refusal::BadPlace);
+    }
+    let NextBlock::Block { message_end, end } = next_block_from(body, at, start) else {
+        return BlockStep::End(BlockCursor {
+            at: len,
+            start: len,
+        });
+    };
+    BlockStep::Block {
+        message_end,
+        end,
+        next: BlockCursor {
+            at: end,
+            start: end,
+        },
+    }
 }

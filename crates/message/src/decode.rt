@@ -5,7 +5,7 @@ use rules::TitleAndBody;
 use text::fixed::starts_with;
 ghost use mathlib.Core.Path.{_≡_};
 ghost use Rattle.rules.specs.Answers.{titleSays};
-ghost use Rattle.rules.specs.Title.{lineEnd, titleEnd, twoEnds};
+ghost use Rattle.rules.specs.Title.{bodyStart, lineEnd, titleEnd, twoEnds};
 ghost use Rattle.message.specs.Decode.{titleAnswer};
 
 // Where the title ends and where the body starts, without what separates them.
@@ -16,7 +16,7 @@ pub fn message_title_and_body(message: &[u8]) -> TitleAndBody
         return TitleAndBody::Refused(Refusal::TooLong);
     }
     let title_end = title_end(message);
-    let body_start = title_end + two_newlines_len(&message[title_end..]);
+    let body_start = body_start(message, title_end);
     if body_start == message.len() {
         return TitleAndBody::NoBody { title_end };
     }
@@ -27,7 +27,7 @@ pub fn message_title_and_body(message: &[u8]) -> TitleAndBody
 }
 
 // Where the title ends: at the first place where two line ends follow each other, or at the end of the message.
-fn title_end(message: &[u8]) -> usize
+pub fn title_end(message: &[u8]) -> usize
     ensures { λ r. ⌜ r ≡ titleEnd (now (message .entry)) ⌝ }
 {
     let mut pos = 0;
@@ -38,6 +38,14 @@ fn title_end(message: &[u8]) -> usize
         pos += 1;
     }
     pos
+}
+
+// Where the body starts, behind the title's end; at the end of the message where there is none.
+pub fn body_start(message: &[u8], title_end: usize) -> usize
+    requires { ⌜ «title_end» ≡ titleEnd (now message) ⌝ }
+    ensures { λ r. ⌜ r ≡ bodyStart (now (message .entry)) ⌝ }
+{
+    title_end + two_newlines_len(&message[title_end..])
 }
 
 // The length of the two line ends at the front; 0 where they are not there.

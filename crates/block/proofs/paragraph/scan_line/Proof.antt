@@ -1,0 +1,93 @@
+-- `block::paragraph::scan_line` meets its contract. Assumes nothing.
+use mathlib.Core.Bool.{Bool, true, false}
+use mathlib.Core.Path.{_≡_, refl, sym, ap, _∙_}
+use Prim.Native.Nat.{_+_}
+use borrow.Author.Needs.{needs}
+use lib.ListN.{length}
+use Rattle.rules.specs.Lines.{Line}
+use Rattle.rules.specs.Trailer.{trailerLine, tokenIn, gapIn}
+use Rattle.rules.specs.Lists.{if_then_else_}
+use Rattle.trailer.specs.Line.{parsed}
+use Rattle.trailer.specs.declared.line.TrailerLine.{TrailerLine}
+use Rattle.block.proofs.paragraph.scan_line.Statement.{statement}
+use Rattle.block.proofs.paragraph.scan_line.Tie as tie
+
+abbrev isAt : TrailerLine → Bool
+isAt (TrailerLine.At n at) = true
+isAt TrailerLine.NoTrailer = false
+
+-- what an answer of `parse_trailer_line` tells of the line
+told : (l : Line) (r q : TrailerLine) → r ≡ parsed l → r ≡ q → trailerLine l ≡ isAt q
+unfolding parsed
+told l r q e f = by (trailerLine l) ∙ ap isAt (sym e ∙ f)
+  where
+    by : (b : Bool) → b ≡ isAt (if b then TrailerLine.At (length (tokenIn l)) (length (tokenIn l) + length (gapIn l)) else TrailerLine.NoTrailer)
+    by true = refl
+    by false = refl
+
+is-recognized-prefix-requires : tie.Need-is-recognized-prefix-requires
+is-recognized-prefix-requires c κs = search needs
+
+add-scan : tie.Need-add-scan
+add-scan c = search needs
+
+returns : tie.Need-returns
+returns c = rw (← c .before .before .is-recognized-prefix .ensures, c .before .if1 .taken)
+
+parse-trailer-line-requires : tie.Need-parse-trailer-line-requires
+parse-trailer-line-requires c κs = search needs
+
+enum-told : tie.Need-enum-told
+enum-told c = search needs
+
+add-scan-2 : tie.Need-add-scan-2
+add-scan-2 c = search needs
+
+returns-2 : tie.Need-returns-2
+returns-2 c =
+    let p = c .before .before .before in
+    rw (← p .before .before .is-recognized-prefix .ensures, p .before .if1 .left, told _ _ _ (p .parse-trailer-line .ensures) (c .before .enum-told .given .1))
+
+enum-told-2 : tie.Need-enum-told-2
+enum-told-2 c = search needs
+
+is-indented-requires : tie.Need-is-indented-requires
+is-indented-requires c κs = search needs
+
+add-scan-3 : tie.Need-add-scan-3
+add-scan-3 c = search needs
+
+returns-3 : tie.Need-returns-3
+returns-3 c =
+    let p = c .before .before .before .before .before in
+    rw (← p .before .before .is-recognized-prefix .ensures, p .before .if1 .left, told _ _ _ (p .parse-trailer-line .ensures) (c .before .before .before .enum-told2 .given .1), ← c .before .before .is-indented .ensures, c .before .if2 .taken)
+
+add-scan-4 : tie.Need-add-scan-4
+add-scan-4 c = search needs
+
+add-scan-5 : tie.Need-add-scan-5
+add-scan-5 c = search needs
+
+returns-4 : tie.Need-returns-4
+returns-4 c =
+    let p = c .before .before .before .before .before .before in
+    rw (← p .before .before .is-recognized-prefix .ensures, p .before .if1 .left, told _ _ _ (p .parse-trailer-line .ensures) (c .before .before .before .before .enum-told2 .given .1), ← c .before .before .before .is-indented .ensures, c .before .before .if2 .left)
+
+pub scan-line-spec : {M : Type 1} → statement M
+scan-line-spec =
+    tie.close
+    (tie.spec
+    is-recognized-prefix-requires
+    add-scan
+    returns
+    parse-trailer-line-requires
+    enum-told
+    add-scan-2
+    returns-2
+    enum-told-2
+    is-indented-requires
+    add-scan-3
+    returns-3
+    add-scan-4
+    add-scan-5
+    returns-4)
