@@ -2,6 +2,7 @@
 -- steps, taken until the end, give each trailer once and in order. Assumes nothing.
 use mathlib.Core.Bool.{Bool, true, false}
 use mathlib.Core.List.{List, [], _∷_, _++_, append-assoc}
+use mathlib.Core.Option.{some}
 use mathlib.Core.Path.{_≡_, refl, sym, ap, _∙_}
 use Prim.Native.Nat.{ℕ, _+_, _≤_, _<_}
 use native.Mathlib.Omega.{arith}
@@ -11,7 +12,8 @@ use lib.Seq.{drop-at, drop-drop, take-at}
 use Rattle.rules.specs.Lines.{Line, lines, folds}
 use Rattle.rules.specs.Lists.{if_then_else_, All, filled, join, past, run}
 use Rattle.rules.specs.Bytes.{colon}
-use Rattle.rules.specs.Trailer.{Trailer, trailer, trailerLine, tokenIn, gapIn, valueIn, placeOf, bytesOf, endOf, tokenOf, rawValue, rawValueAt, walk, walkFrom}
+use Rattle.rules.specs.Trailer.{Trailer, trailer, trailerLine, tokenIn, gapIn, valueIn, placeOf, bytesOf, endOf, tokenOf, rawValue, rawValueAt, asked, isOf, lookup, only, walk, walkFrom}
+use Rattle.rules.specs.declared.Kind.{Kind}
 use Rattle.rules.proofs.Lines.{filled-lines, join-lines, lines-suffix}
 use Rattle.rules.proofs.Lists.{filled-append, filled-some, join-append, run-past}
 use Rattle.rules.proofs.Trailer.{trailer-line, walk-trailer}
@@ -76,13 +78,14 @@ pub record Stands (body : List ℕ) (t : Trailer) : Type 0 where
   pub token-at : take (length (tokenOf t)) (drop (placeOf t) body) ≡ tokenOf t
   pub token-ends : placeOf t + length (tokenOf t) < rawValueAt t
   pub raw-ends : endOf t ≡ rawValueAt t + length (rawValue t)
+  pub inside : endOf t ≤ length body
   pub raw-value-at : take (length (rawValue t)) (drop (rawValueAt t) body) ≡ rawValue t
 
 drop-split : (k n m : ℕ) → m ≡ k + n → (s : List ℕ) → drop m s ≡ drop n (drop k s)
 drop-split k n m e s = rw e (sym (drop-drop n k s))
 
-stands : (body : List ℕ) (t : Trailer) (left : List ℕ) → IsTrailer t → drop (placeOf t) body ≡ bytesOf t ++ left → Stands body t
-stands body (trailer k l js) left i e =
+stands : (body : List ℕ) (t : Trailer) (left : List ℕ) → IsTrailer t → endOf t ≤ length body → drop (placeOf t) body ≡ bytesOf t ++ left → Stands body t
+stands body (trailer k l js) left i w e =
     let read : l ≡ tokenIn l ++ (gapIn l ++ colon ∷ valueIn l) = trailer-line l i .read in
     let front : List ℕ = tokenIn l ++ (gapIn l ++ (colon ∷ [])) in
     let whole : drop k body ≡ front ++ ((valueIn l ++ join js) ++ left) = e ∙ ap (λ (x : List ℕ). (x ++ join js) ++ left) read ∙ simp append-assoc in
@@ -95,6 +98,7 @@ stands body (trailer k l js) left i e =
       token-at = rw (whole, append-assoc) (take-at (tokenIn l) (gapIn l ++ (colon ∷ []) ++ ((valueIn l ++ join js) ++ left)) (length (tokenIn l)) refl);
       token-ends = omega arith;
       raw-ends = ends;
+      inside = w;
       raw-value-at = rw raw (take-at (valueIn l ++ join js) left (length (valueIn l ++ join js)) refl);
     }
 
@@ -130,8 +134,40 @@ module _ (body : List ℕ) (at : ℕ) (t : Trailer) (ts : List Trailer) (e : wal
       (drop-at (here .ahead) (bytesOf t ++ join (here .left)) (length (here .ahead)) refl)
 
   pub walk-stands : Stands body t
-  walk-stands = stands body t (join (here .left)) (here .leading) bytes-stand
+  walk-stands = stands body t (join (here .left)) (here .leading) walk-within bytes-stand
 
 -- at the body's end no trailer is left
 pub walk-ends : (body : List ℕ) (at : ℕ) → length body ≤ at → walkFrom body at ≡ []
 walk-ends body at h = rw (drop-of-length-le body h)
+
+-- ---- and so does every trailer of a walk, of a filter of it, and of a lookup
+
+abbrev AllStand : List ℕ → List Trailer → Type 0
+AllStand body [] = Unit {0}
+AllStand body (t ∷ ts) = Stands body t × AllStand body ts
+
+all-stand : (body : List ℕ) (at : ℕ) (ts : List Trailer) → walkFrom body at ≡ ts → AllStand body ts
+all-stand body at [] e = tt
+all-stand body at (t ∷ ts) e = (walk-stands body at t ts e, all-stand body (endOf t) ts (walk-step body at t ts e))
+
+only-first : (body : List ℕ) (kind : Kind) (ts : List Trailer) {t : Trailer} {us : List Trailer} → AllStand body ts → only kind ts ≡ t ∷ us → Stands body t
+only-first body kind [] a e = let z : _≡_ {A = ℕ} 0 1 = cc in absurd (omega arith)
+only-first body kind (v ∷ ts) {t} {us} a e = by (isOf kind (tokenOf v)) refl (only-first body kind ts (a .1))
+  where
+    by : (b : Bool) → isOf kind (tokenOf v) ≡ b → (only kind ts ≡ t ∷ us → Stands body t) → Stands body t
+    by true q more = let h : v ∷ only kind ts ≡ t ∷ us = rw q at e in let here : v ≡ t = cc in rw (← here) (a .0)
+    by false q more = more (rw q at e)
+
+lookup-first : (body name : List ℕ) (ts : List Trailer) {t : Trailer} → AllStand body ts → lookup name ts ≡ some t → Stands body t
+lookup-first body name [] a e = let z : _≡_ {A = ℕ} 0 1 = cc in absurd (omega arith)
+lookup-first body name (v ∷ ts) {t} a e = by (asked name (tokenOf v)) refl (lookup-first body name ts (a .1))
+  where
+    by : (b : Bool) → asked name (tokenOf v) ≡ b → (lookup name ts ≡ some t → Stands body t) → Stands body t
+    by true q more = let h : some v ≡ some t = rw q at e in let here : v ≡ t = cc in rw (← here) (a .0)
+    by false q more = more (rw q at e)
+
+pub only-stands : (body : List ℕ) (at : ℕ) (kind : Kind) {t : Trailer} {us : List Trailer} → only kind (walkFrom body at) ≡ t ∷ us → Stands body t
+only-stands body at kind e = only-first body kind (walkFrom body at) (all-stand body at (walkFrom body at) refl) e
+
+pub lookup-stands : (body : List ℕ) (at : ℕ) (name : List ℕ) {t : Trailer} → lookup name (walkFrom body at) ≡ some t → Stands body t
+lookup-stands body at name e = lookup-first body name (walkFrom body at) (all-stand body at (walkFrom body at) refl) e
