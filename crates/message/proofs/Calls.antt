@@ -1,6 +1,7 @@
 -- What the parts of a call answer, in the numbers and values that its statement gives. Assumes nothing.
 use mathlib.Core.Bool.{Bool, true, false}
 use mathlib.Core.List.{List, [], _∷_, _++_}
+use mathlib.Core.Option.{Option, none, some}
 use mathlib.Core.Path.{_≡_, refl, sym, ap, _∙_}
 use Prim.Native.Nat.{ℕ, _+_, _-_, _≤_}
 use native.Mathlib.Nat.{add-assoc}
@@ -13,16 +14,18 @@ use Rattle.block.specs.declared.walk.NextBlock.{NextBlock}
 use Rattle.rules.specs.Answers.{Said, says, afterwards, limit, refused, valueSays}
 use Rattle.rules.specs.Division.{Block, block}
 use Rattle.rules.specs.Lists.{if_then_else_}
-use Rattle.rules.specs.Trailer.{Trailer, only, rawValue, rawValueAt, unfolded, valueIsWritten, walkFrom}
+use Rattle.rules.specs.Paragraph.{blockStart}
+use Rattle.rules.specs.Trailer.{Trailer, lookup, only, rawValue, rawValueAt, unfolded, valueIsWritten, walkFrom}
 use Rattle.rules.specs.White.{trim, trimAt}
 use Rattle.rules.specs.declared.Kind.{Kind}
 use Rattle.rules.specs.declared.Refusal.{Refusal}
 use Rattle.rules.specs.declared.Value.{Value}
-use Rattle.rules.proofs.Walk.{Stands, only-stands}
+use Rattle.rules.proofs.Walk.{Stands, lookup-stands, only-stands}
 use Rattle.trailer.proofs.Steps.{First, first-is, none-is}
 use Rattle.trailer.specs.Walk.{nextOf}
 use Rattle.trailer.specs.declared.walk.NextTrailer.{NextTrailer}
-use Rattle.message.specs.Body.{blockSays, stepAnswer, stepBuffer, trailerAt, valueAnswer, valueAt, valueBuffer, writtenAnswer, writtenOf}
+use Rattle.walk.specs.Lookup.{lookedUp}
+use Rattle.message.specs.Body.{blockSays, findAnswer, findBuffer, stepAnswer, stepBuffer, trailerAt, valueAnswer, valueAt, valueBuffer, writtenAnswer, writtenOf}
 
 pub block-found : (body : List ℕ) (at : ℕ) (bs : List Block) {m e : ℕ} → nextBlock at bs ≡ NextBlock.Block m e
     → blockSays body at bs ≡ says 0 (m ∷ e ∷ e ∷ e ∷ [])
@@ -126,3 +129,58 @@ module _ (kind : Kind) (body : List ℕ) (at : ℕ) (short : ltb limit (length b
 
     pub step-left : (out : List ℕ) → valueBuffer (take (e - (c + 1)) (drop (c + 1) body)) out ≡ stepBuffer kind body at out
     step-left out = value-left body f w out ∙ rw (short, fits, f .walked)
+
+-- ---- the lookup, behind refusal 1
+
+-- a trailer that was looked up, by its places
+record Looked (o : Option Trailer) (s t c e : ℕ) : Type 0 where
+  u : Trailer
+  there : o ≡ some u
+  f : First (u ∷ []) s t c e
+  first : f .found ≡ u
+
+looked-up : (o : Option Trailer) {s t c e : ℕ} → lookedUp o ≡ NextTrailer.Trailer s t c e → Looked o s t c e
+looked-up none q = let z : _≡_ {A = ℕ} 0 1 = cc in absurd (omega arith)
+looked-up (some v) q =
+    let g = first-is (v ∷ []) q in
+    let list : v ∷ [] ≡ g .found ∷ g .later = g .walked in
+    record { u = v; there = refl; f = g; first = cc }
+
+not-there : (o : Option Trailer) → lookedUp o ≡ NextTrailer.End → o ≡ none
+not-there none q = refl
+not-there (some u) q = cc
+
+module _ (body name : List ℕ) (short : ltb limit (length body) ≡ false) (brief : ltb limit (length name) ≡ false) where
+  abbrev answer : Option Trailer
+  answer = lookup name (walkFrom body (blockStart body))
+
+  pub find-none : lookedUp answer ≡ NextTrailer.End → (room : ℕ) → says 0 [] ≡ findAnswer body name room
+  find-none q room = rw (short, brief, not-there answer q, le-ltb room 0 (omega arith))
+
+  pub find-none-left : lookedUp answer ≡ NextTrailer.End → (out : List ℕ) → out ≡ findBuffer body name out
+  find-none-left q out = rw (short, brief, not-there answer q, le-ltb (length out) 0 (omega arith))
+
+  module _ {s t c e : ℕ} (q : lookedUp answer ≡ NextTrailer.Trailer s t c e) where
+    l : Looked answer s t c e
+    l = looked-up answer q
+
+    at-u : Stands body (l .f .found)
+    at-u = rw (l .first) (lookup-stands body (blockStart body) name (l .there))
+
+    pub find-fits : (c + 1 ≤ e) × (e ≤ length body)
+    find-fits = raw-fits body (l .f) at-u
+
+    pub find-found : (value : Value) (room : ℕ) → says 0 (valueSays value) ≡ valueAnswer (c + 1) (take (e - (c + 1)) (drop (c + 1) body)) room
+        → says 0 (s ∷ t ∷ valueSays value) ≡ findAnswer body name room
+    find-found value room p =
+        let r = rw (l .first) at (value-given body (l .f) at-u value room p) in
+        rw (short, brief, l .there, r .0) (ap (λ (xs : List ℕ). says 0 xs) (r .1))
+
+    pub find-refused : (r : Refusal) (room : ℕ) → refused r ≡ valueAnswer (c + 1) (take (e - (c + 1)) (drop (c + 1) body)) room
+        → refused r ≡ findAnswer body name room
+    find-refused r room p =
+        let k = rw (l .first) at (value-refused body (l .f) at-u r room p) in
+        rw (short, brief, l .there, k .0) (k .1)
+
+    pub find-left : (out : List ℕ) → valueBuffer (take (e - (c + 1)) (drop (c + 1) body)) out ≡ findBuffer body name out
+    find-left out = (rw (l .first) at (value-left body (l .f) at-u out)) ∙ rw (short, brief, l .there)

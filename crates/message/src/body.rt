@@ -4,10 +4,10 @@ ghost use mathlib.Core.List.{[]};
 ghost use mathlib.Core.Path.{_≡_};
 ghost use Prim.Native.Nat.{_-_, _≤_};
 ghost use lib.ListN.{length, take, drop};
-ghost use Rattle.rules.specs.Answers.{afterwards, blockStepSays, startSays, trailerStepSays, valueFoundSays, yesNoSays};
+ghost use Rattle.rules.specs.Answers.{afterwards, blockStepSays, startSays, trailerFoundSays, trailerStepSays, valueFoundSays, yesNoSays};
 ghost use Rattle.rules.specs.Trailer.{unfolded};
 ghost use Rattle.rules.specs.declared.Kind.{Kind};
-ghost use Rattle.message.specs.Body.{blockAnswer, partOf, questionAnswer, startAnswer, stepAnswer, stepBuffer, valueAnswer, valueBuffer, viewOf, writtenAnswer};
+ghost use Rattle.message.specs.Body.{blockAnswer, findAnswer, findBuffer, partOf, questionAnswer, startAnswer, stepAnswer, stepBuffer, valueAnswer, valueBuffer, viewOf, writtenAnswer};
 use block::walk::NextBlock;
 use block::walk::next_block_from;
 use rules::BlockCursor;
@@ -18,6 +18,7 @@ use rules::LIMIT;
 use rules::Part;
 use rules::Refusal;
 use rules::StartFound;
+use rules::TrailerFound;
 use rules::TrailerRef;
 use rules::TrailerStep;
 use rules::Value;
@@ -28,28 +29,126 @@ use trailer::value::is_folded;
 use trailer::value::unfold_into;
 use trailer::value::unfolded_len;
 use trailer::walk::NextTrailer;
+use walk::find_named;
 use walk::next_of;
 
-// The bytes of `s` from `start` up to `end`; none where the range does not fit.
-fn part_or_empty<'a>(s: &'a [u8], start: usize, end: usize) -> &'a [u8]
-    ensures { λ r. ⌜ now r ≡ partOf (now (s .entry)) start end ⌝ }
+// The unfolded value of a raw value that has several lines: written to the front of `out`, where there is room.
+fn unfold_value(value: &[u8], out: &mut [u8]) -> ValueFound
+    ensures { λ r. ⌜ valueFoundSays r ≡ writtenAnswer (unfolded (now (value .entry))) (length (now (out .entry))) ⌝ }
+    ensures { λ _. ⌜ now (out .exit) ≡ afterwards [] true (unfolded (now (value .entry))) (now (out .entry)) ⌝ }
 {
-    if end < start {
-        return &s[0..0];
+    let needed = unfolded_len(value);
+    if out.len() < needed {
+        return ValueFound::Refused(Refusal::NoRoom(needed));
     }
-    if s.len() < end {
-        return &s[0..0];
-    }
-    &s[start..end]
+    unfold_into(value, out);
+    ValueFound::At(Value::InBuffer(Part {
+        start: 0,
+        end: needed,
+    }))
 }
 
-// What a value shows: the part of the message, or of the buffer, in which it stands. A range that does not fit shows nothing.
-pub fn value_of<'a>(message: &'a [u8], buffer: &'a [u8], value: Value) -> &'a [u8]
-    ensures { λ r. ⌜ now r ≡ viewOf (now (message .entry)) (now (buffer .entry)) value ⌝ }
+// The value of the raw value from `from` up to `to`: a part of the body, or, unfolded, the front of `out`.
+fn read_value(body: &[u8], from: usize, to: usize, out: &mut [u8]) -> ValueFound
+    requires { ⌜ (from ≤ to) × (to ≤ length (now body)) ⌝ }
+    ensures { λ r. ⌜ valueFoundSays r ≡ valueAnswer from (take (to - from) (drop from (now (body .entry)))) (length (now (out .entry))) ⌝ }
+    ensures { λ _. ⌜ now (out .exit) ≡ valueBuffer (take (to - from) (drop from (now (body .entry)))) (now (out .entry)) ⌝ }
 {
-    match value {
-        Value::InInput(part) => part_or_empty(message, part.start, part.end),
-        Value::InBuffer(part) => part_or_empty(buffer, part.start, part.end),
+    let raw = &body[from..to];
+    if is_folded(raw) {
+        return unfold_value(raw, out);
+    }
+    let part = trim(raw);
+    let start = from + part.start;
+    let end = from + part.end;
+    ValueFound::At(Value::InInput(Part { start, end }))
+}
+
+// Where the trailer block of `body` starts; the body's length where it has none.
+pub fn trailer_block_start(body: &[u8]) -> StartFound
+    ensures { λ r. ⌜ startSays r ≡ startAnswer (now (body .entry)) ⌝ }
+{
+    if body.len() > LIMIT {
+        return StartFound::Refused(Refusal::TooLong);
+    }
+    StartFound::At(block::paragraph::trailer_block_start(body))
+}
+
+// The next trailer from the cursor on whose token is of the kind; the others are passed over, and write nothing.
+pub fn next_trailer_of(body: &[u8], cursor: Cursor, kind: Kind, out: &mut [u8]) -> TrailerStep
+    ensures { λ r. ⌜ trailerStepSays r ≡ stepAnswer kind (now (body .entry)) (cursor .at) (length (now (out .entry))) ⌝ }
+    ensures { λ _. ⌜ now (out .exit) ≡ stepBuffer kind (now (body .entry)) (cursor .at) (now (out .entry)) ⌝ }
+{
+    let at = cursor.at;
+    let len = body.len();
+    if len > LIMIT {
+        return TrailerStep::Refused(Refusal::TooLong);
+    }
+    if len < at {
+        return TrailerStep::Refused(Refusal::BadPlace);
+    }
+    let NextTrailer::Trailer {
+        start,
+        token_end,
+        separator,
+        end,
+    } = next_of(body, at, kind)
+    else {
+        return TrailerStep::End(Cursor { at: len });
+    };
+    let read = read_value(body, separator + 1, end, out);
+    match read {
+        ValueFound::At(value) => TrailerStep::Trailer {
+            found: TrailerRef {
+                token: Part {
+                    start,
+                    end: token_end,
+                },
+                value,
+            },
+            next: Cursor { at: end },
+        },
+        ValueFound::Refused(refusal) => TrailerStep::Refused(refusal),
+    }
+}
+
+// The next trailer from the cursor on.
+pub fn next_trailer(body: &[u8], cursor: Cursor, out: &mut [u8]) -> TrailerStep
+    ensures { λ r. ⌜ trailerStepSays r ≡ stepAnswer Kind.All (now (body .entry)) (cursor .at) (length (now (out .entry))) ⌝ }
+    ensures { λ _. ⌜ now (out .exit) ≡ stepBuffer Kind.All (now (body .entry)) (cursor .at) (now (out .entry)) ⌝ }
+{
+    next_trailer_of(body, cursor, Kind::All, out)
+}
+
+// The next block from the cursor on: a message, and the trailers following it.
+pub fn next_block(body: &[u8], cursor: BlockCursor) -> BlockStep
+    ensures { λ r. ⌜ blockStepSays r ≡ blockAnswer (now (body .entry)) (cursor .at) (cursor .start) ⌝ }
+{
+    let at = cursor.at;
+    let start = cursor.start;
+    let len = body.len();
+    if len > LIMIT {
+        return BlockStep::Refused(Refusal::TooLong);
+    }
+    if len < at {
+        return BlockStep::Refused(Refusal::BadPlace);
+    }
+    if len < start {
+        return BlockStep::Refused(Refusal::BadPlace);
+    }
+    let NextBlock::Block { message_end, end } = next_block_from(body, at, start) else {
+        return BlockStep::End(BlockCursor {
+            at: len,
+            start: len,
+        });
+    };
+    BlockStep::Block {
+        message_end,
+        end,
+        next: BlockCursor {
+            at: end,
+            start: end,
+        },
     }
 }
 
@@ -123,122 +222,59 @@ pub fn is_attribution(input: &[u8], token: Part) -> YesNo
     ask(input, token, Kind::Attribution)
 }
 
-// Where the trailer block of `body` starts; the body's length where it has none.
-pub fn trailer_block_start(body: &[u8]) -> StartFound
-    ensures { λ r. ⌜ startSays r ≡ startAnswer (now (body .entry)) ⌝ }
+// The first trailer of the body that has the name, ASCII case aside.
+pub fn find_trailer(body: &[u8], name: &[u8], out: &mut [u8]) -> TrailerFound
+    ensures { λ r. ⌜ trailerFoundSays r ≡ findAnswer (now (body .entry)) (now (name .entry)) (length (now (out .entry))) ⌝ }
+    ensures { λ _. ⌜ now (out .exit) ≡ findBuffer (now (body .entry)) (now (name .entry)) (now (out .entry)) ⌝ }
 {
     if body.len() > LIMIT {
-        return StartFound::Refused(Refusal::TooLong);
+        return TrailerFound::Refused(Refusal::TooLong);
     }
-    StartFound::At(block::paragraph::trailer_block_start(body))
-}
-
-// The next block from the cursor on: a message, and the trailers following it.
-pub fn next_block(body: &[u8], cursor: BlockCursor) -> BlockStep
-    ensures { λ r. ⌜ blockStepSays r ≡ blockAnswer (now (body .entry)) (cursor .at) (cursor .start) ⌝ }
-{
-    let at = cursor.at;
-    let start = cursor.start;
-    let len = body.len();
-    if len > LIMIT {
-        return BlockStep::Refused(Refusal::TooLong);
+    if name.len() > LIMIT {
+        return TrailerFound::Refused(Refusal::TooLong);
     }
-    if len < at {
-        return BlockStep::Refused(Refusal::BadPlace);
-    }
-    if len < start {
-        return BlockStep::Refused(Refusal::BadPlace);
-    }
-    let NextBlock::Block { message_end, end } = next_block_from(body, at, start) else {
-        return BlockStep::End(BlockCursor {
-            at: len,
-            start: len,
-        });
-    };
-    BlockStep::Block {
-        message_end,
-        end,
-        next: BlockCursor {
-            at: end,
-            start: end,
-        },
-    }
-}
-
-// The unfolded value of a raw value that has several lines: written to the front of `out`, where there is room.
-fn unfold_value(value: &[u8], out: &mut [u8]) -> ValueFound
-    ensures { λ r. ⌜ valueFoundSays r ≡ writtenAnswer (unfolded (now (value .entry))) (length (now (out .entry))) ⌝ }
-    ensures { λ _. ⌜ now (out .exit) ≡ afterwards [] true (unfolded (now (value .entry))) (now (out .entry)) ⌝ }
-{
-    let needed = unfolded_len(value);
-    if out.len() < needed {
-        return ValueFound::Refused(Refusal::NoRoom(needed));
-    }
-    unfold_into(value, out);
-    ValueFound::At(Value::InBuffer(Part {
-        start: 0,
-        end: needed,
-    }))
-}
-
-// The value of the raw value from `from` up to `to`: a part of the body, or, unfolded, the front of `out`.
-fn read_value(body: &[u8], from: usize, to: usize, out: &mut [u8]) -> ValueFound
-    requires { ⌜ (from ≤ to) × (to ≤ length (now body)) ⌝ }
-    ensures { λ r. ⌜ valueFoundSays r ≡ valueAnswer from (take (to - from) (drop from (now (body .entry)))) (length (now (out .entry))) ⌝ }
-    ensures { λ _. ⌜ now (out .exit) ≡ valueBuffer (take (to - from) (drop from (now (body .entry)))) (now (out .entry)) ⌝ }
-{
-    let raw = &body[from..to];
-    if is_folded(raw) {
-        return unfold_value(raw, out);
-    }
-    let part = trim(raw);
-    let start = from + part.start;
-    let end = from + part.end;
-    ValueFound::At(Value::InInput(Part { start, end }))
-}
-
-// The next trailer from the cursor on whose token is of the kind; the others are passed over, and write nothing.
-pub fn next_trailer_of(body: &[u8], cursor: Cursor, kind: Kind, out: &mut [u8]) -> TrailerStep
-    ensures { λ r. ⌜ trailerStepSays r ≡ stepAnswer kind (now (body .entry)) (cursor .at) (length (now (out .entry))) ⌝ }
-    ensures { λ _. ⌜ now (out .exit) ≡ stepBuffer kind (now (body .entry)) (cursor .at) (now (out .entry)) ⌝ }
-{
-    let at = cursor.at;
-    let len = body.len();
-    if len > LIMIT {
-        return TrailerStep::Refused(Refusal::TooLong);
-    }
-    if len < at {
-        return TrailerStep::Refused(Refusal::BadPlace);
-    }
+    let at = block::paragraph::trailer_block_start(body);
     let NextTrailer::Trailer {
         start,
         token_end,
         separator,
         end,
-    } = next_of(body, at, kind)
+    } = find_named(body, at, name)
     else {
-        return TrailerStep::End(Cursor { at: len });
+        return TrailerFound::NoSuchTrailer;
     };
     let read = read_value(body, separator + 1, end, out);
     match read {
-        ValueFound::At(value) => TrailerStep::Trailer {
-            found: TrailerRef {
-                token: Part {
-                    start,
-                    end: token_end,
-                },
-                value,
+        ValueFound::At(value) => TrailerFound::Trailer(TrailerRef {
+            token: Part {
+                start,
+                end: token_end,
             },
-            next: Cursor { at: end },
-        },
-        ValueFound::Refused(refusal) => TrailerStep::Refused(refusal),
+            value,
+        }),
+        ValueFound::Refused(refusal) => TrailerFound::Refused(refusal),
     }
 }
 
-// The next trailer from the cursor on.
-pub fn next_trailer(body: &[u8], cursor: Cursor, out: &mut [u8]) -> TrailerStep
-    ensures { λ r. ⌜ trailerStepSays r ≡ stepAnswer Kind.All (now (body .entry)) (cursor .at) (length (now (out .entry))) ⌝ }
-    ensures { λ _. ⌜ now (out .exit) ≡ stepBuffer Kind.All (now (body .entry)) (cursor .at) (now (out .entry)) ⌝ }
+// The bytes of `s` from `start` up to `end`; none where the range does not fit.
+fn part_or_empty<'a>(s: &'a [u8], start: usize, end: usize) -> &'a [u8]
+    ensures { λ r. ⌜ now r ≡ partOf (now (s .entry)) start end ⌝ }
 {
-    next_trailer_of(body, cursor, Kind::All, out)
+    if end < start {
+        return &s[0..0];
+    }
+    if s.len() < end {
+        return &s[0..0];
+    }
+    &s[start..end]
+}
+
+// What a value shows: the part of the message, or of the buffer, in which it stands. A range that does not fit shows nothing.
+pub fn value_of<'a>(message: &'a [u8], buffer: &'a [u8], value: Value) -> &'a [u8]
+    ensures { λ r. ⌜ now r ≡ viewOf (now (message .entry)) (now (buffer .entry)) value ⌝ }
+{
+    match value {
+        Value::InInput(part) => part_or_empty(message, part.start, part.end),
+        Value::InBuffer(part) => part_or_empty(buffer, part.start, part.end),
+    }
 }

@@ -1,23 +1,19 @@
+-- `message::message_trailers` meets its contract. Assumes nothing.
 use mathlib.Core.List.{List}
 use mathlib.Core.Path.{_≡_}
 use Prim.Native.Nat.{ℕ, _+_, _-_, _≤_}
 use native.Mathlib.Omega.{arith}
+use borrow.Author.Needs.{needs}
 use borrow.Author.Tests.{lt-ltb, le-ltb}
 use lib.ListN.{length, take, drop, length-drop}
-use Rattle.rules.specs.Paragraph.{blockStart}
-use Rattle.rules.specs.Title.{bodyStart, body}
 use Rattle.rules.proofs.Paragraph.{start-within}
 use Rattle.rules.proofs.Title.{body-fits}
+use Rattle.rules.specs.Paragraph.{blockStart}
+use Rattle.rules.specs.Title.{bodyStart, body}
 use Rattle.text.proofs.Parts.{rest}
 use Rattle.message.specs.Message.{walkStart}
-use borrow.Author.Needs.{needs}
 use Rattle.message.proofs.message_trailers.Statement.{statement}
 use Rattle.message.proofs.message_trailers.Tie as tie
-use Rattle.message.proofs.message_trailers.Reads as reads
-use Rattle.message.proofs.message_trailers.Lts as lts
-use Rattle.block.proofs.paragraph.trailer_block_start.Reads as trailer-block-start-reads
-use Rattle.message.proofs.decode.body_start.Reads as body-start-reads
-use Rattle.message.proofs.decode.title_end.Reads as title-end-reads
 
 -- the body's start and the block's start in the body
 walk-at : (m : List ℕ) (s k : ℕ) → s ≡ bodyStart m → k ≡ blockStart (take (length m - s) (drop s m)) → s + k ≡ walkStart m
@@ -26,39 +22,30 @@ walk-at m s k p q = rw (q, rest m s, p)
 walk-fits : (m : List ℕ) → walkStart m ≤ length m
 walk-fits m = omega (arith, body-fits m, start-within (body m), length-drop (bodyStart m) m)
 
--- src/lib.rt:19:9
 returns : tie.Need-returns
 returns c = simp (lt-ltb _ _ (c .if1 .taken))
 
--- src/lib.rt:21:9
 title-end-requires : tie.Need-title-end-requires
 title-end-requires c κs = search needs
 
--- src/lib.rt:22:9
 body-start-requires : tie.Need-body-start-requires
 body-start-requires c κs = search needs
 
--- src/lib.rt:23:47
 sub-trailer-block-start : tie.Need-sub-trailer-block-start
 sub-trailer-block-start c = omega (arith, body-fits (c .before .before .before .before .args .message .now), c .body-start .ensures)
 
--- src/lib.rt:23:47
 part-trailer-block-start-start : tie.Need-part-trailer-block-start-start
 part-trailer-block-start-start c = omega (arith, body-fits (c .before .before .before .before .args .message .now), c .body-start .ensures)
 
--- src/lib.rt:23:47
 part-trailer-block-start-end : tie.Need-part-trailer-block-start-end
 part-trailer-block-start-end c = search needs
 
--- src/lib.rt:23:27
 trailer-block-start-requires : tie.Need-trailer-block-start-requires
 trailer-block-start-requires c κs = search needs
 
--- src/lib.rt:23:14
 add-at : tie.Need-add-at
 add-at c = omega (arith, walk-at (c .before .before .before .before .before .before .args .message .now) (c .before .before .body-start .result) (c .trailer-block-start .result) (c .before .before .body-start .ensures) (c .trailer-block-start .ensures), walk-fits (c .before .before .before .before .before .before .args .message .now))
 
--- src/lib.rt:15:1
 returns-2 : tie.Need-returns-2
 returns-2 c = simp (le-ltb _ _ (c .before .before .before .before .if1 .left), walk-at (c .before .before .before .before .before .before .args .message .now) (c .before .before .body-start .result) (c .trailer-block-start .result) (c .before .before .body-start .ensures) (c .trailer-block-start .ensures))
 

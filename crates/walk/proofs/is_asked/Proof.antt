@@ -1,21 +1,16 @@
+-- `walk::is_asked` meets its contract. Assumes nothing.
 use mathlib.Core.Path.{sym, _∙_}
-use Rattle.walk.proofs.Tokens.{asked-empty, asked-some}
 use borrow.Author.Needs.{needs}
+use Rattle.walk.proofs.Tokens.{asked-empty, asked-some}
 use Rattle.walk.proofs.is_asked.Statement.{statement}
 use Rattle.walk.proofs.is_asked.Tie as tie
-use Rattle.walk.proofs.is_asked.Reads as reads
-use Rattle.walk.proofs.is_asked.Lts as lts
-use Rattle.text.proofs.fixed.eq_ignore_ascii_case.Reads as eq-ignore-ascii-case-reads
 
--- src/lib.rt:88:9
 returns : tie.Need-returns
 returns c = sym (asked-empty (c .before .before .before .args .name .now) (c .before .before .before .args .token .now) (c .if1 .taken))
 
--- src/lib.rt:90:5
 eq-ignore-ascii-case-requires : tie.Need-eq-ignore-ascii-case-requires
 eq-ignore-ascii-case-requires c κs = search needs
 
--- src/lib.rt:84:1
 returns-2 : tie.Need-returns-2
 returns-2 c =
     c .eq-ignore-ascii-case .ensures

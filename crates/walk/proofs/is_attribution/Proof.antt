@@ -1,66 +1,49 @@
+-- `walk::is_attribution` meets its contract. Assumes nothing.
 use mathlib.Core.Path.{sym, _∙_}
-use Rattle.walk.proofs.Tokens.{attribution-is}
 use borrow.Author.Needs.{needs}
+use Rattle.walk.proofs.Tokens.{attribution-is}
 use Rattle.walk.proofs.is_attribution.Statement.{statement}
 use Rattle.walk.proofs.is_attribution.Tie as tie
-use Rattle.walk.proofs.is_attribution.Reads as reads
-use Rattle.walk.proofs.is_attribution.Lts as lts
-use Rattle.text.proofs.fixed.eq_ignore_ascii_case.Reads as eq-ignore-ascii-case-reads
-use Rattle.walk.proofs.is_author.Reads as is-author-reads
 
--- src/lib.rt:21:8
 is-author-requires : tie.Need-is-author-requires
 is-author-requires c κs = search needs
 
--- src/lib.rt:22:9
 returns : tie.Need-returns
 returns c = simp (attribution-is, sym (c .before .is-author .ensures) ∙ c .if1 .taken)
 
--- src/lib.rt:24:36
 slice-aggregate-eq-ignore-ascii-case : tie.Need-slice-aggregate-eq-ignore-ascii-case
 slice-aggregate-eq-ignore-ascii-case c = search needs
 
--- src/lib.rt:24:8
 eq-ignore-ascii-case-requires : tie.Need-eq-ignore-ascii-case-requires
 eq-ignore-ascii-case-requires c κs = search needs
 
--- src/lib.rt:25:9
 returns-2 : tie.Need-returns-2
 returns-2 c = simp (attribution-is, sym (c .before .before .before .before .is-author .ensures) ∙ c .before .before .before .if1 .left, sym (c .before .eq-ignore-ascii-case .ensures) ∙ c .if2 .taken)
 
--- src/lib.rt:27:36
 slice-aggregate-eq-ignore-ascii-case-2 : tie.Need-slice-aggregate-eq-ignore-ascii-case-2
 slice-aggregate-eq-ignore-ascii-case-2 c = search needs
 
--- src/lib.rt:27:8
 eq-ignore-ascii-case-requires-2 : tie.Need-eq-ignore-ascii-case-requires-2
 eq-ignore-ascii-case-requires-2 c κs = search needs
 
--- src/lib.rt:28:9
 returns-3 : tie.Need-returns-3
 returns-3 c = simp (attribution-is, sym (c .before .before .before .before .before .before .before .is-author .ensures) ∙ c .before .before .before .before .before .before .if1 .left, sym (c .before .before .before .before .eq-ignore-ascii-case .ensures) ∙ c .before .before .before .if2 .left, sym (c .before .eq-ignore-ascii-case2 .ensures) ∙ c .if3 .taken)
 
--- src/lib.rt:30:36
 slice-aggregate-eq-ignore-ascii-case-3 : tie.Need-slice-aggregate-eq-ignore-ascii-case-3
 slice-aggregate-eq-ignore-ascii-case-3 c = search needs
 
--- src/lib.rt:30:8
 eq-ignore-ascii-case-requires-3 : tie.Need-eq-ignore-ascii-case-requires-3
 eq-ignore-ascii-case-requires-3 c κs = search needs
 
--- src/lib.rt:31:9
 returns-4 : tie.Need-returns-4
 returns-4 c = simp (attribution-is, sym (c .before .before .before .before .before .before .before .before .before .before .is-author .ensures) ∙ c .before .before .before .before .before .before .before .before .before .if1 .left, sym (c .before .before .before .before .before .before .before .eq-ignore-ascii-case .ensures) ∙ c .before .before .before .before .before .before .if2 .left, sym (c .before .before .before .before .eq-ignore-ascii-case2 .ensures) ∙ c .before .before .before .if3 .left, sym (c .before .eq-ignore-ascii-case3 .ensures) ∙ c .if4 .taken)
 
--- src/lib.rt:33:33
 slice-aggregate-eq-ignore-ascii-case-4 : tie.Need-slice-aggregate-eq-ignore-ascii-case-4
 slice-aggregate-eq-ignore-ascii-case-4 c = search needs
 
--- src/lib.rt:33:5
 eq-ignore-ascii-case-requires-4 : tie.Need-eq-ignore-ascii-case-requires-4
 eq-ignore-ascii-case-requires-4 c κs = search needs
 
--- src/lib.rt:18:1
 returns-5 : tie.Need-returns-5
 returns-5 c = c .eq-ignore-ascii-case4 .ensures ∙ simp (attribution-is, sym (c .before .before .before .before .before .before .before .before .before .before .before .before .is-author .ensures) ∙ c .before .before .before .before .before .before .before .before .before .before .before .if1 .left, sym (c .before .before .before .before .before .before .before .before .before .eq-ignore-ascii-case .ensures) ∙ c .before .before .before .before .before .before .before .before .if2 .left, sym (c .before .before .before .before .before .before .eq-ignore-ascii-case2 .ensures) ∙ c .before .before .before .before .before .if3 .left, sym (c .before .before .before .eq-ignore-ascii-case3 .ensures) ∙ c .before .before .if4 .left)
 

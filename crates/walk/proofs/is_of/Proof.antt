@@ -1,137 +1,101 @@
+-- `walk::is_of` meets its contract. Assumes nothing.
 use borrow.Author.Needs.{needs}
 use Rattle.walk.proofs.is_of.Statement.{statement}
 use Rattle.walk.proofs.is_of.Tie as tie
-use Rattle.walk.proofs.is_of.Reads as reads
-use Rattle.walk.proofs.is_of.Lts as lts
-use Rattle.text.proofs.fixed.eq_ignore_ascii_case.Reads as eq-ignore-ascii-case-reads
-use Rattle.walk.proofs.is_attribution.Reads as is-attribution-reads
-use Rattle.walk.proofs.is_author.Reads as is-author-reads
 
--- src/lib.rt:30:22
 enum-told : tie.Need-enum-told
 enum-told c = search needs
 
--- src/lib.rt:31:58
 enum-told-2 : tie.Need-enum-told-2
 enum-told-2 c = search needs
 
--- src/lib.rt:31:58
 slice-aggregate-eq-ignore-ascii-case : tie.Need-slice-aggregate-eq-ignore-ascii-case
 slice-aggregate-eq-ignore-ascii-case c = search needs
 
--- src/lib.rt:31:30
 eq-ignore-ascii-case-requires : tie.Need-eq-ignore-ascii-case-requires
 eq-ignore-ascii-case-requires c κs = search needs
 
--- src/lib.rt:32:59
 enum-told-3 : tie.Need-enum-told-3
 enum-told-3 c = search needs
 
--- src/lib.rt:32:59
 slice-aggregate-eq-ignore-ascii-case-2 : tie.Need-slice-aggregate-eq-ignore-ascii-case-2
 slice-aggregate-eq-ignore-ascii-case-2 c = search needs
 
--- src/lib.rt:32:31
 eq-ignore-ascii-case-requires-2 : tie.Need-eq-ignore-ascii-case-requires-2
 eq-ignore-ascii-case-requires-2 c κs = search needs
 
--- src/lib.rt:33:57
 enum-told-4 : tie.Need-enum-told-4
 enum-told-4 c = search needs
 
--- src/lib.rt:33:57
 slice-aggregate-eq-ignore-ascii-case-3 : tie.Need-slice-aggregate-eq-ignore-ascii-case-3
 slice-aggregate-eq-ignore-ascii-case-3 c = search needs
 
--- src/lib.rt:33:29
 eq-ignore-ascii-case-requires-3 : tie.Need-eq-ignore-ascii-case-requires-3
 eq-ignore-ascii-case-requires-3 c κs = search needs
 
--- src/lib.rt:34:54
 enum-told-5 : tie.Need-enum-told-5
 enum-told-5 c = search needs
 
--- src/lib.rt:34:54
 slice-aggregate-eq-ignore-ascii-case-4 : tie.Need-slice-aggregate-eq-ignore-ascii-case-4
 slice-aggregate-eq-ignore-ascii-case-4 c = search needs
 
--- src/lib.rt:34:26
 eq-ignore-ascii-case-requires-4 : tie.Need-eq-ignore-ascii-case-requires-4
 eq-ignore-ascii-case-requires-4 c κs = search needs
 
--- src/lib.rt:35:57
 enum-told-6 : tie.Need-enum-told-6
 enum-told-6 c = search needs
 
--- src/lib.rt:35:57
 slice-aggregate-eq-ignore-ascii-case-5 : tie.Need-slice-aggregate-eq-ignore-ascii-case-5
 slice-aggregate-eq-ignore-ascii-case-5 c = search needs
 
--- src/lib.rt:35:29
 eq-ignore-ascii-case-requires-5 : tie.Need-eq-ignore-ascii-case-requires-5
 eq-ignore-ascii-case-requires-5 c κs = search needs
 
--- src/lib.rt:36:55
 enum-told-7 : tie.Need-enum-told-7
 enum-told-7 c = search needs
 
--- src/lib.rt:36:55
 slice-aggregate-eq-ignore-ascii-case-6 : tie.Need-slice-aggregate-eq-ignore-ascii-case-6
 slice-aggregate-eq-ignore-ascii-case-6 c = search needs
 
--- src/lib.rt:36:27
 eq-ignore-ascii-case-requires-6 : tie.Need-eq-ignore-ascii-case-requires-6
 eq-ignore-ascii-case-requires-6 c κs = search needs
 
--- src/lib.rt:37:30
 enum-told-8 : tie.Need-enum-told-8
 enum-told-8 c = search needs
 
--- src/lib.rt:37:30
 is-attribution-requires : tie.Need-is-attribution-requires
 is-attribution-requires c κs = search needs
 
--- src/lib.rt:38:25
 enum-told-9 : tie.Need-enum-told-9
 enum-told-9 c = search needs
 
--- src/lib.rt:38:25
 is-author-requires : tie.Need-is-author-requires
 is-author-requires c κs = search needs
 
--- src/lib.rt:26:1
 returns : tie.Need-returns
 returns c = search needs
 
--- src/lib.rt:26:1
 returns-2 : tie.Need-returns-2
 returns-2 c = rw (c .before .before .enum-told2 .given .1) (c .eq-ignore-ascii-case .ensures)
 
--- src/lib.rt:26:1
 returns-3 : tie.Need-returns-3
 returns-3 c = rw (c .before .before .enum-told3 .given .1) (c .eq-ignore-ascii-case2 .ensures)
 
--- src/lib.rt:26:1
 returns-4 : tie.Need-returns-4
 returns-4 c = rw (c .before .before .enum-told4 .given .1) (c .eq-ignore-ascii-case3 .ensures)
 
--- src/lib.rt:26:1
 returns-5 : tie.Need-returns-5
 returns-5 c = rw (c .before .before .enum-told5 .given .1) (c .eq-ignore-ascii-case4 .ensures)
 
--- src/lib.rt:26:1
 returns-6 : tie.Need-returns-6
 returns-6 c = rw (c .before .before .enum-told6 .given .1) (c .eq-ignore-ascii-case5 .ensures)
 
--- src/lib.rt:26:1
 returns-7 : tie.Need-returns-7
 returns-7 c = rw (c .before .before .enum-told7 .given .1) (c .eq-ignore-ascii-case6 .ensures)
 
--- src/lib.rt:26:1
 returns-8 : tie.Need-returns-8
 returns-8 c = rw (c .before .enum-told8 .given .1) (c .is-attribution .ensures)
 
--- src/lib.rt:26:1
 returns-9 : tie.Need-returns-9
 returns-9 c = rw (c .before .enum-told9 .given .1) (c .is-author .ensures)
 

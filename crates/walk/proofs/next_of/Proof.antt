@@ -1,3 +1,4 @@
+-- `walk::next_of` meets its contract. Assumes nothing.
 use mathlib.Core.Path.{_≡_, refl, sym, ap, _∙_}
 use Prim.Native.Nat.{_-_, _≤_}
 use native.Mathlib.Omega.{arith}
@@ -8,10 +9,6 @@ use Rattle.trailer.specs.Walk.{nextOf}
 use Rattle.walk.proofs.Steps.{none-found, step-found, found-order, found-kept, found-passed}
 use Rattle.walk.proofs.next_of.Statement.{statement}
 use Rattle.walk.proofs.next_of.Tie as tie
-use Rattle.walk.proofs.next_of.Reads as reads
-use Rattle.walk.proofs.next_of.Lts as lts
-use Rattle.trailer.proofs.walk.next_trailer_from.Reads as next-trailer-from-reads
-use Rattle.walk.proofs.is_of.Reads as is-of-reads
 
 abbrev Inv-loop : tie.InvT-loop
 Inv-loop body at kind from₀ from = (from ≤ length body) × (only kind (walkFrom body from) ≡ only kind (walkFrom body at))
@@ -19,56 +16,44 @@ Inv-loop body at kind from₀ from = (from ≤ length body) × (only kind (walkF
 abbrev μ-loop : tie.MeasureT-loop
 μ-loop body at kind from₀ from = length body - from
 
--- src/lib.rt:64:5
 loop-holds : tie.Need-loop-holds Inv-loop μ-loop
 loop-holds c = (search needs, refl)
 
--- src/lib.rt:65:13
 next-trailer-from-requires : tie.Need-next-trailer-from-requires Inv-loop μ-loop
 next-trailer-from-requires c κs = search needs
 
--- src/lib.rt:67:13
 enum-known-found : tie.Need-enum-known-found Inv-loop μ-loop
 enum-known-found c = search needs
 
--- src/lib.rt:73:13
 enum-told : tie.Need-enum-told Inv-loop μ-loop
 enum-told c = search needs
 
--- src/lib.rt:73:13
 returns : tie.Need-returns Inv-loop μ-loop
 returns c =
     sym (none-found (c .before .before .before .before .before .args .kind) (walkFrom (c .before .before .before .before .before .args .body .now) (c .before .before .before .loop .from)) (sym (c .before .before .next-trailer-from .ensures) ∙ c .enum-told .given .1))
     ∙ ap nextOf (c .before .before .before .loop .inv .1)
 
--- src/lib.rt:75:24
 sub-is-of : tie.Need-sub-is-of Inv-loop μ-loop
 sub-is-of c = omega (arith, found-order (c .before .before .before .before .before .before .args .body .now) (c .before .before .before .before .loop .from) (step-found (c .before .before .before .before .before .before .args .body .now) (c .before .before .before .before .loop .from) (c .before .before .before .next-trailer-from .result) (c .before .before .before .next-trailer-from .ensures) (c .before .found .given .1)))
 
--- src/lib.rt:75:24
 part-is-of-start : tie.Need-part-is-of-start Inv-loop μ-loop
 part-is-of-start c = omega (arith, found-order (c .before .before .before .before .before .before .args .body .now) (c .before .before .before .before .loop .from) (step-found (c .before .before .before .before .before .before .args .body .now) (c .before .before .before .before .loop .from) (c .before .before .before .next-trailer-from .result) (c .before .before .before .next-trailer-from .ensures) (c .before .found .given .1)))
 
--- src/lib.rt:75:24
 part-is-of-end : tie.Need-part-is-of-end Inv-loop μ-loop
 part-is-of-end c = omega (arith, found-order (c .before .before .before .before .before .before .args .body .now) (c .before .before .before .before .loop .from) (step-found (c .before .before .before .before .before .before .args .body .now) (c .before .before .before .before .loop .from) (c .before .before .before .next-trailer-from .result) (c .before .before .before .next-trailer-from .ensures) (c .before .found .given .1)))
 
--- src/lib.rt:75:12
 is-of-requires : tie.Need-is-of-requires Inv-loop μ-loop
 is-of-requires c κs = search needs
 
--- src/lib.rt:76:13
 returns-2 : tie.Need-returns-2 Inv-loop μ-loop
 returns-2 c =
     let f = step-found (c .before .before .before .before .before .before .before .before .before .args .body .now) (c .before .before .before .before .before .before .before .loop .from) (c .before .before .before .before .before .before .next-trailer-from .result) (c .before .before .before .before .before .before .next-trailer-from .ensures) (c .before .before .before .before .found .given .1) in
     sym (c .before .before .before .before .found .given .1) ∙ c .before .before .before .before .before .before .next-trailer-from .ensures
     ∙ sym (found-kept (c .before .before .before .before .before .before .before .before .before .args .body .now) (c .before .before .before .before .before .before .before .loop .from) f (c .before .before .before .before .before .before .before .before .before .args .kind) (sym (c .before .is-of .ensures) ∙ c .if1 .taken)) ∙ ap nextOf (c .before .before .before .before .before .before .before .loop .inv .1)
 
--- src/lib.rt:64:5
 loop-less : tie.Need-loop-less Inv-loop μ-loop
 loop-less c = omega (arith, found-order (c .before .before .before .before .before .before .before .before .before .args .body .now) (c .before .before .before .before .before .before .before .loop .from) (step-found (c .before .before .before .before .before .before .before .before .before .args .body .now) (c .before .before .before .before .before .before .before .loop .from) (c .before .before .before .before .before .before .next-trailer-from .result) (c .before .before .before .before .before .before .next-trailer-from .ensures) (c .before .before .before .before .found .given .1)))
 
--- src/lib.rt:64:5
 loop-again : tie.Need-loop-again Inv-loop μ-loop
 loop-again c =
     let f = step-found (c .before .before .before .before .before .before .before .before .before .args .body .now) (c .before .before .before .before .before .before .before .loop .from) (c .before .before .before .before .before .before .next-trailer-from .result) (c .before .before .before .before .before .before .next-trailer-from .ensures) (c .before .before .before .before .found .given .1) in

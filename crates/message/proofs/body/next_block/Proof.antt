@@ -1,43 +1,33 @@
+-- `message::body::next_block` meets its contract. Assumes nothing.
 use mathlib.Core.Path.{sym, _∙_}
+use borrow.Author.Needs.{needs}
 use borrow.Author.Tests.{le-leb, lt-leb, lt-ltb, le-ltb}
 use Rattle.rules.specs.Division.{blocksFrom}
 use Rattle.message.proofs.Calls.{block-ended, block-found}
-use borrow.Author.Needs.{needs}
 use Rattle.message.proofs.body.next_block.Statement.{statement}
 use Rattle.message.proofs.body.next_block.Tie as tie
-use Rattle.message.proofs.body.next_block.Reads as reads
-use Rattle.message.proofs.body.next_block.Lts as lts
-use Rattle.block.proofs.walk.next_block_from.Reads as next-block-from-reads
 
--- src/body.rt:131:9
 returns : tie.Need-returns
 returns c = simp (lt-ltb _ _ (c .if1 .taken))
 
--- src/body.rt:134:9
 returns-2 : tie.Need-returns-2
 returns-2 c = simp (le-ltb _ _ (c .before .if1 .left), lt-leb _ _ (c .if2 .taken))
 
--- src/body.rt:137:9
 returns-3 : tie.Need-returns-3
 returns-3 c = simp (le-ltb _ _ (c .before .before .if1 .left), le-leb _ _ (c .before .if2 .left), lt-leb _ _ (c .if3 .taken))
 
--- src/body.rt:139:49
 next-block-from-requires : tie.Need-next-block-from-requires
 next-block-from-requires c κs = search needs
 
--- src/body.rt:139:28
 enum-known-message-end : tie.Need-enum-known-message-end
 enum-known-message-end c = search needs
 
--- src/body.rt:140:31
 enum-told : tie.Need-enum-told
 enum-told c = search needs
 
--- src/body.rt:140:9
 returns-4 : tie.Need-returns-4
 returns-4 c = simp (le-ltb _ _ (c .before .before .before .before .before .if1 .left), le-leb _ _ (c .before .before .before .before .if2 .left), le-leb _ _ (c .before .before .before .if3 .left), block-ended (c .before .before .before .before .before .before .before .args .body .now) (c .before .before .before .before .before .before .before .args .cursor .at) (blocksFrom (c .before .before .before .before .before .before .before .args .body .now) (c .before .before .before .before .before .before .before .args .cursor .at) (c .before .before .before .before .before .before .before .args .cursor .start)) (sym (c .before .before .next-block-from .ensures) ∙ c .enum-told .given .1))
 
--- src/body.rt:124:1
 returns-5 : tie.Need-returns-5
 returns-5 c = simp (le-ltb _ _ (c .before .before .before .before .before .before .if1 .left), le-leb _ _ (c .before .before .before .before .before .if2 .left), le-leb _ _ (c .before .before .before .before .if3 .left), block-found (c .before .before .before .before .before .before .before .before .args .body .now) (c .before .before .before .before .before .before .before .before .args .cursor .at) (blocksFrom (c .before .before .before .before .before .before .before .before .args .body .now) (c .before .before .before .before .before .before .before .before .args .cursor .at) (c .before .before .before .before .before .before .before .before .args .cursor .start)) (sym (c .before .before .before .next-block-from .ensures) ∙ c .before .message-end .given .1))
 

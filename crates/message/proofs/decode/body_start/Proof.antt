@@ -5,8 +5,8 @@ use Prim.Native.Nat.{ℕ, _+_, _-_}
 use native.Mathlib.Omega.{arith}
 use borrow.Author.Needs.{needs}
 use lib.ListN.{length, take, drop}
-use Rattle.rules.specs.Title.{titleEnd, twoEnds, bodyStart}
 use Rattle.rules.proofs.Title.{title-fits, body-fits}
+use Rattle.rules.specs.Title.{titleEnd, twoEnds, bodyStart}
 use Rattle.text.proofs.Parts.{rest}
 use Rattle.message.proofs.decode.body_start.Statement.{statement}
 use Rattle.message.proofs.decode.body_start.Tie as tie

@@ -8,10 +8,10 @@ use borrow.Author.Needs.{needs}
 use borrow.Author.Tests.{lt-ltb, le-ltb}
 use lib.ListN.{length}
 use lib.Seq.{drop-cons, drop-length}
+use Rattle.rules.proofs.Title.{body-fits}
 use Rattle.rules.specs.Answers.{limit}
 use Rattle.rules.specs.Lists.{filled}
 use Rattle.rules.specs.Title.{bodyStart, body}
-use Rattle.rules.proofs.Title.{body-fits}
 use Rattle.message.proofs.decode.message_title_and_body.Statement.{statement}
 use Rattle.message.proofs.decode.message_title_and_body.Tie as tie
 

@@ -6,10 +6,10 @@ use Prim.Native.Nat.{ℕ, zero, suc, _+_, _-_, _≤_}
 use native.Mathlib.Omega.{arith}
 use borrow.Author.Needs.{needs}
 use lib.ListN.{length, take, drop, length-drop}
+use Rattle.rules.proofs.White.{starts-is}
 use Rattle.rules.specs.Bytes.{CR, LF}
 use Rattle.rules.specs.Lists.{if_then_else_, starts}
 use Rattle.rules.specs.Title.{lineEnd, twoEnds}
-use Rattle.rules.proofs.White.{starts-is}
 use Rattle.text.proofs.Parts.{rest}
 use Rattle.message.proofs.decode.two_newlines_len.Statement.{statement}
 use Rattle.message.proofs.decode.two_newlines_len.Tie as tie
