@@ -1,0 +1,19 @@
+//! The original, unchanged, beside Git and beside the port.
+//!
+//! `answers` says what is compared, `original` asks the original for it. A module over the port's archive gives the same
+//! `Answer`; its calls that write go through `buffers::ask`. `inputs` has the inputs. Then
+//!
+//! ```text
+//! let plan = Plan { seed: 1, deeper: 0, messages: 100_000, long: true };
+//! let outcome = search::compare(&plan, original::answer, ours::answer);
+//! ```
+//!
+//! ends at the first input on which the two disagree and makes it small; `answers::difference` names the field.
+
+pub mod answers;
+pub mod buffers;
+pub mod git;
+pub mod inputs;
+pub mod original;
+pub mod rng;
+pub mod search;
