@@ -2,21 +2,22 @@
 -- those of the trailer walk. Assumes nothing.
 use mathlib.Core.Bool.{Bool, true, false, not, _||_}
 use mathlib.Core.List.{List, [], _∷_, _++_, append-assoc, append-nil}
+use mathlib.Core.Logic.{inl, inr}
 use mathlib.Core.Path.{_≡_, refl, sym, ap, _∙_}
 use Prim.Native.Nat.{ℕ, zero, suc, _+_, _-_, _≤_, _<_}
 use native.Mathlib.Nat.{add-zero, zero-add}
 use native.Mathlib.Omega.{arith}
 use lib.Dec.{T, eqb}
-use lib.ListN.{length, take, drop, length-append, length-drop, take-append-drop}
-use lib.Seq.{drop-at, drop-drop, length-take-le}
-use Rattle.rules.specs.Division.{Block, block, joined, pushText, pushTrailer, groupBlocks, groupedBlocks, blocks, blocksFrom, walkParts}
+use lib.ListN.{length, take, drop, drop-of-length-le, length-append, length-drop, take-append-drop}
+use lib.Seq.{drop-at, drop-drop, drop-nil, length-take-le, take-nil}
+use Rattle.rules.specs.Division.{Block, block, hasBytes, joined, pushText, pushTrailer, groupBlocks, groupedBlocks, blocks, blocksFrom, walkParts}
 use Rattle.rules.specs.Bytes.{LF}
 use Rattle.rules.specs.Lines.{Line, lines, folds, before}
 use Rattle.rules.specs.Lists.{if_then_else_, All, Stops, filled, join, past, run}
 use Rattle.rules.specs.Paragraph.{Group, group, Grouped, grouped, groupLines, groupedLines, IsGroups, IsGrouped, groups}
 use Rattle.rules.specs.Trailer.{trailerLine, walk, walkFrom}
-use Rattle.rules.proofs.Lists.{all-of, all-append, all-right, filled-append, filled-some, join-append, nor, nor-right, or-left, or-right, past-stops, run-all, run-cut, run-past}
-use Rattle.rules.proofs.Division.{joined-blocks}
+use Rattle.rules.proofs.Lists.{all-of, all-append, all-right, filled-append, filled-some, join-append, nor, nor-right, or-cases, or-left, or-right, past-stops, run-all, run-cut, run-past}
+use Rattle.rules.proofs.Division.{division, joined-blocks}
 use Rattle.rules.proofs.Lines.{filled-lines, join-lines, lines-suffix, lines-infix}
 use Rattle.rules.proofs.Paragraph.{groups-is, groups-lines, grouped-unique}
 use Rattle.rules.proofs.Trailer.{plain, folds-no-trailer, walk-plain, walk-append}
@@ -251,6 +252,45 @@ cursor-step body at start m t bs e end q =
 -- "at the end of the walk both are the body's length": there is no block from a cursor on only there
 pub cursor-end : (body : List ℕ) (at start : ℕ) → blocksFrom body at start ≡ [] → length body ≤ at
 cursor-end body at start e = omega (arith, length-drop at body, ap length (sym (joined-blocks (drop at body) (start - at)) ∙ ap joined e))
+
+-- what a step answers from a block cursor on, and goes on from the block's end, at most n times
+abbrev stepping : ℕ → (ℕ → List Block) → List Block → List Block
+stepping at more [] = []
+stepping at more (block m t ∷ bs) = block m t ∷ more (at + length m + length t)
+
+abbrev pub steps : List ℕ → ℕ → ℕ → ℕ → List Block
+steps body zero at start = []
+steps body (suc n) at start = stepping at (λ end. steps body n end end) (blocksFrom body at start)
+
+moves : (body : List ℕ) (at start : ℕ) (m t : List ℕ) (bs : List Block) → start ≤ length body → blocksFrom body at start ≡ block m t ∷ bs
+    → (0 < length m + length t) × (at + length m + length t ≤ length body)
+moves body at start m t bs h e =
+    let inside : start - at ≤ length (drop at body) = omega (arith, length-drop at body) in
+    let bytes : All hasBytes (block m t ∷ bs) = rw e at (division (drop at body) (start - at) inside .some-bytes) in
+    let read : m ++ (t ++ joined bs) ≡ drop at body = sym (ap joined e) ∙ joined-blocks (drop at body) (start - at) in
+    let some : 0 < length m + length t = elim (or-cases (filled m) (filled t) (bytes .0)) [
+      | inl f ↦ omega (arith, filled-some m f)
+      | inr f ↦ omega (arith, filled-some t f)
+    ] in
+    (some, omega (arith, ap length read, length-append m (t ++ joined bs), length-append t (joined bs), length-drop at body))
+
+past-end : (body : List ℕ) (at start : ℕ) → length body ≤ at → blocksFrom body at start ≡ []
+past-end body at start h =
+    let none : drop at body ≡ [] = drop-of-length-le body h in
+    rw (none, blocks-end [] (start - at) (drop-nil (start - at)), take-nil {A = ℕ} (start - at))
+
+-- the steps, taken until the end, give the division, each block once and in order
+pub steps-blocks : (body : List ℕ) (n at start : ℕ) → start ≤ length body → length body < at + n → steps body n at start ≡ blocksFrom body at start
+steps-blocks body zero at start w h = sym (past-end body at start (omega arith))
+steps-blocks body (suc n) at start w h = by (blocksFrom body at start) refl (steps-blocks body n)
+  where
+    by : (bs : List Block) → blocksFrom body at start ≡ bs
+        → ((k l : ℕ) → l ≤ length body → length body < k + n → steps body n k l ≡ blocksFrom body k l) → stepping at (λ end. steps body n end end) bs ≡ bs
+    by [] e more = refl
+    by (block m t ∷ bs) e more =
+        let r = moves body at start m t bs w e in
+        let end : ℕ = at + length m + length t in
+        ap (λ (cs : List Block). block m t ∷ cs) (more end end (r .1) (omega arith) ∙ cursor-step body at start m t bs e end refl)
 
 -- ---- the blocks' trailers, joined, are those of the trailer walk
 

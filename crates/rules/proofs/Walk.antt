@@ -4,7 +4,7 @@ use mathlib.Core.Bool.{Bool, true, false}
 use mathlib.Core.List.{List, [], _∷_, _++_, append-assoc}
 use mathlib.Core.Option.{some}
 use mathlib.Core.Path.{_≡_, refl, sym, ap, _∙_}
-use Prim.Native.Nat.{ℕ, _+_, _≤_, _<_}
+use Prim.Native.Nat.{ℕ, zero, suc, _+_, _≤_, _<_}
 use native.Mathlib.Omega.{arith}
 use lib.Dec.{T}
 use lib.ListN.{length, take, drop, drop-of-length-le, length-append, length-drop}
@@ -171,3 +171,42 @@ only-stands body at kind e = only-first body kind (walkFrom body at) (all-stand 
 
 pub lookup-stands : (body : List ℕ) (at : ℕ) (name : List ℕ) {t : Trailer} → lookup name (walkFrom body at) ≡ some t → Stands body t
 lookup-stands body at name e = lookup-first body name (walkFrom body at) (all-stand body at (walkFrom body at) refl) e
+
+-- ---- the steps, taken until the end, give the walk, each trailer once and in order; with a filter too
+
+only-steps : (body : List ℕ) (kind : Kind) (at : ℕ) (ts : List Trailer) (t : Trailer) (us : List Trailer) → walkFrom body at ≡ ts → only kind ts ≡ t ∷ us
+    → (only kind (walkFrom body (endOf t)) ≡ us) × (at < endOf t) × (endOf t ≤ length body)
+only-steps body kind at [] t us e o = let z : _≡_ {A = ℕ} 0 1 = cc in absurd (omega arith)
+only-steps body kind at (v ∷ ts) t us e o = by (isOf kind (tokenOf v)) refl (only-steps body kind (endOf v) ts t us (walk-step body at v ts e))
+  where
+    by : (b : Bool) → isOf kind (tokenOf v) ≡ b
+        → (only kind ts ≡ t ∷ us → (only kind (walkFrom body (endOf t)) ≡ us) × (endOf v < endOf t) × (endOf t ≤ length body))
+        → (only kind (walkFrom body (endOf t)) ≡ us) × (at < endOf t) × (endOf t ≤ length body)
+    by true q more =
+        let h : v ∷ only kind ts ≡ t ∷ us = rw q at o in
+        let here : v ≡ t = cc in
+        let others : only kind ts ≡ us = cc in
+        rw (← here) (ap (only kind) (walk-step body at v ts e) ∙ others, walk-moves body at v ts e, walk-within body at v ts e)
+    by false q more =
+        let r = more (rw q at o) in
+        (r .0, omega (arith, walk-moves body at v ts e, r .1), r .2)
+
+-- what a step answers from a cursor on, and goes on from its end, at most n times
+abbrev stepping : (ℕ → List Trailer) → List Trailer → List Trailer
+stepping more [] = []
+stepping more (t ∷ ts) = t ∷ more (endOf t)
+
+abbrev pub steps : Kind → List ℕ → ℕ → ℕ → List Trailer
+steps kind body zero at = []
+steps kind body (suc n) at = stepping (steps kind body n) (only kind (walkFrom body at))
+
+pub steps-walk : (kind : Kind) (body : List ℕ) (n at : ℕ) → length body < at + n → steps kind body n at ≡ only kind (walkFrom body at)
+steps-walk kind body zero at h = sym (ap (only kind) (walk-ends body at (omega arith)))
+steps-walk kind body (suc n) at h = by (only kind (walkFrom body at)) refl (steps-walk kind body n)
+  where
+    by : (ts : List Trailer) → only kind (walkFrom body at) ≡ ts
+        → ((k : ℕ) → length body < k + n → steps kind body n k ≡ only kind (walkFrom body k)) → stepping (steps kind body n) ts ≡ ts
+    by [] e more = refl
+    by (t ∷ ts) e more =
+        let r = only-steps body kind at (walkFrom body at) t ts refl e in
+        ap (λ (us : List Trailer). t ∷ us) (more (endOf t) (omega (arith, r .1)) ∙ r .0)
