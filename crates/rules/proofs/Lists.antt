@@ -55,6 +55,12 @@ pub is-false : (b : Bool) → T (not b) → b ≡ false
 is-false true t = absurd t
 is-false false t = refl
 
+pub same-test : (a b : Bool) → (T a → T b) → (T b → T a) → a ≡ b
+same-test true true p q = refl
+same-test true false p q = absurd (p tt)
+same-test false true p q = absurd (q tt)
+same-test false false p q = refl
+
 module _ {A : Type 0} where
   pub clash : (p : A → Bool) (x y : A) → T (p x) → T (not (p y)) → x ≡ y → ⊥
   clash p x y t f e = T-not (p y) f (rw e at t)

@@ -12,7 +12,7 @@ use lib.Dec.{T, eqb, leb, eqb→eq, eqb-refl, leb→le}
 use lib.ListN.{length, getD, length-append}
 use Rattle.rules.specs.Lists.{if_then_else_, any, all, equal, filled}
 use Rattle.rules.specs.White.{whiteSpace, forms, Form, formAt}
-use Rattle.rules.proofs.Lists.{and-left, and-right, cut-unique, filled-some, or-cases}
+use Rattle.rules.proofs.Lists.{and-left, and-right, cut-unique, filled-some, or-cases, same-test}
 use Rattle.rules.proofs.White.{form, bare, form-at, form-length, passes}
 
 -- ---- which byte strings are forms, by the tests of the code
@@ -123,12 +123,6 @@ white-form (a ∷ []) t = white-one a t
 white-form (a ∷ b ∷ []) t = white-two a b t
 white-form (a ∷ b ∷ c ∷ []) t = white-three a b c t
 white-form (a ∷ b ∷ c ∷ d ∷ f) t = absurd t
-
-same-test : (a b : Bool) → (T a → T b) → (T b → T a) → a ≡ b
-same-test true true p q = refl
-same-test true false p q = absurd (p tt)
-same-test false true p q = absurd (q tt)
-same-test false false p q = refl
 
 pub form-by-bytes : (f : List ℕ) → any (equal f) forms ≡ white f
 form-by-bytes f = same-test (any (equal f) forms) (white f) (form-white f) (white-form f)
