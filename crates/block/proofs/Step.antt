@@ -14,7 +14,7 @@ use Rattle.rules.specs.Lists.{if_then_else_, Stops, filled, first, join, past, 
 use Rattle.rules.specs.Trailer.{trailerLine, tokenIn, gapIn}
 use Rattle.rules.proofs.Blocks.{inPart, blocks-end, blocks-forward}
 use Rattle.rules.proofs.Lines.{join-lines, lines-suffix}
-use Rattle.rules.proofs.Lists.{join-append, past-stops, run-past}
+use Rattle.rules.proofs.Lists.{join-append, past-stops, run-past, run-shorter}
 use Rattle.rules.proofs.Trailer.{plain}
 use Rattle.text.specs.Lines.{firstLength}
 use Rattle.text.proofs.Parts.{rest}
@@ -168,15 +168,10 @@ same-ends e f = cc
 drop-filled : (s : List ℕ) (at : ℕ) → at < length s → T (filled (drop at s))
 drop-filled s at h = rw (drop-cons s at 0) tt
 
-run-within : (p : Line → Bool) (ls : List Line) → length (join (run p ls)) ≤ length (join ls)
-run-within p ls =
-    let cut : join (run p ls) ++ join (past p ls) ≡ join ls = sym (join-append (run p ls) (past p ls)) ∙ ap join (run-past p ls) in
-    omega (arith, simp length-append at (ap length cut))
-
 part-within : (ls : List Line) → length (join (partLines ls)) ≤ length (join ls)
 part-within [] = omega arith
 part-within (l ∷ ls) = elim (trailerLine l) as (λ b. length (join (if b then l ∷ run inPart ls else [])) ≤ length (join (l ∷ ls))) [
-  | true ↦ omega (arith, run-within inPart ls, length-append l (join (run inPart ls)), length-append l (join ls))
+  | true ↦ omega (arith, run-shorter inPart ls, length-append l (join (run inPart ls)), length-append l (join ls))
   | false ↦ omega arith
 ]
 
@@ -185,7 +180,7 @@ module _ (body : List ℕ) (from m : ℕ) (l : from ≤ length body)
     (e : m ≡ messageLength (onward body from)) where
   pub message-within : from + m ≤ length body
   message-within =
-      omega (arith, rw rest at e, run-within plain (lines (drop from body)), ap length (join-lines (drop from body)), length-drop from body)
+      omega (arith, rw rest at e, run-shorter plain (lines (drop from body)), ap length (join-lines (drop from body)), length-drop from body)
 
   module _ (p : ℕ) (q : p ≡ partLength (onward body (from + m))) where
     pub trailers-within : from + m + p ≤ length body

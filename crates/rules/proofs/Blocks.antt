@@ -16,7 +16,7 @@ use Rattle.rules.specs.Lines.{Line, lines, folds, before}
 use Rattle.rules.specs.Lists.{if_then_else_, All, Stops, filled, join, past, run}
 use Rattle.rules.specs.Paragraph.{Group, group, Grouped, grouped, groupLines, groupedLines, IsGroups, IsGrouped, groups}
 use Rattle.rules.specs.Trailer.{trailerLine, walk, walkFrom}
-use Rattle.rules.proofs.Lists.{all-of, all-append, all-right, filled-append, filled-some, join-append, nor, nor-right, or-cases, or-left, or-right, past-stops, run-all, run-cut, run-past}
+use Rattle.rules.proofs.Lists.{all-of, all-append, all-right, filled-append, filled-some, join-append, nor, nor-right, or-cases, or-left, or-right, past-shorter, past-stops, run-all, run-cut, run-past}
 use Rattle.rules.proofs.Division.{division, joined-blocks}
 use Rattle.rules.proofs.Lines.{filled-lines, join-lines, lines-suffix, lines-infix}
 use Rattle.rules.proofs.Paragraph.{groups-is, groups-lines, grouped-unique}
@@ -293,9 +293,6 @@ steps-blocks body (suc n) at start w h = by (blocksFrom body at start) refl (ste
         ap (λ (cs : List Block). block m t ∷ cs) (more end end (r .1) (omega arith) ∙ cursor-step body at start m t bs e end refl)
 
 -- ---- the blocks' trailers, joined, are those of the trailer walk
-
-past-shorter : (p : Line → Bool) (ls : List Line) → length (join (past p ls)) ≤ length (join ls)
-past-shorter p ls = omega (arith, length-append (join (run p ls)) (join (past p ls)), ap length (sym (join-append (run p ls) (past p ls)) ∙ ap join (run-past p ls)))
 
 rest-shorter : (ls : List Line) → All filled ls → T (filled ls) → length (join (past inPart (past plain ls))) < length (join ls)
 rest-shorter [] f t = absurd t

@@ -2,11 +2,11 @@
 use mathlib.Core.Bool.{Bool, true, false, not, _&&_, _||_}
 use mathlib.Core.List.{List, [], _∷_, _++_, append-assoc}
 use mathlib.Core.Logic.{_⊎_, inl, inr}
-use mathlib.Core.Path.{_≡_, refl}
-use Prim.Native.Nat.{ℕ, _<_}
+use mathlib.Core.Path.{_≡_, refl, sym, ap, _∙_}
+use Prim.Native.Nat.{ℕ, _≤_, _<_}
 use native.Mathlib.Omega.{arith}
 use lib.Dec.{T, T-not, eqb, eqb→eq}
-use lib.ListN.{length}
+use lib.ListN.{length, length-append}
 use Rattle.rules.specs.Lists.{if_then_else_, All, Stops, Ends, any, all, equal, filled, first, join, past, run, starts}
 
 -- ---- tests
@@ -174,6 +174,13 @@ first-filled p (c ∷ s) h = tt
 pub join-append : (a b : List (List ℕ)) → join (a ++ b) ≡ join a ++ join b
 join-append [] b = refl
 join-append (l ∷ a) b = rw (join-append a b, append-assoc)
+
+-- a run of pieces, and what is behind it, are together as long as all
+pub run-shorter : (p : List ℕ → Bool) (ls : List (List ℕ)) → length (join (run p ls)) ≤ length (join ls)
+run-shorter p ls = omega (arith, length-append (join (run p ls)) (join (past p ls)), ap length (sym (join-append (run p ls) (past p ls)) ∙ ap join (run-past p ls)))
+
+pub past-shorter : (p : List ℕ → Bool) (ls : List (List ℕ)) → length (join (past p ls)) ≤ length (join ls)
+past-shorter p ls = omega (arith, length-append (join (run p ls)) (join (past p ls)), ap length (sym (join-append (run p ls) (past p ls)) ∙ ap join (run-past p ls)))
 
 pub equal-is : (a b : List ℕ) → T (equal a b) → a ≡ b
 equal-is [] [] t = refl

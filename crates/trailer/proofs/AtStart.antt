@@ -1,16 +1,16 @@
 -- What `trailer_at_start` answers, by what `parse_trailer_line` answers of all that is handed on. Assumes nothing.
 use mathlib.Core.Bool.{Bool, true, false}
-use mathlib.Core.List.{List, [], _∷_, _++_}
+use mathlib.Core.List.{List, [], _∷_}
 use mathlib.Core.Path.{_≡_, refl, sym, ap, _∙_}
 use Prim.Native.Nat.{ℕ, _+_, _-_, _≤_, _<_}
 use native.Mathlib.Omega.{arith}
 use lib.Dec.{T}
 use lib.ListN.{length, take, drop, length-append, length-drop}
 use Rattle.rules.specs.Lines.{Line, folds, lines}
-use Rattle.rules.specs.Lists.{if_then_else_, join, past, run}
+use Rattle.rules.specs.Lists.{if_then_else_, join, run}
 use Rattle.rules.specs.Trailer.{named, trailerLine, tokenIn, gapIn}
 use Rattle.rules.proofs.Lines.{join-lines}
-use Rattle.rules.proofs.Lists.{join-append, run-past}
+use Rattle.rules.proofs.Lists.{run-shorter}
 use Rattle.rules.proofs.Trailer.{trailer-line}
 use Rattle.text.specs.Lines.{firstLength}
 use Rattle.text.proofs.Lines.{first-line, first-within}
@@ -20,16 +20,10 @@ use Rattle.trailer.specs.declared.line.TrailerAtStart.{TrailerAtStart}
 use Rattle.trailer.specs.declared.line.TrailerLine.{TrailerLine}
 use Rattle.trailer.proofs.Parsed.{parsed-front}
 
-folds-within : (ls : List Line) → length (join (run folds ls)) ≤ length (join ls)
-folds-within ls =
-    let cut : join (run folds ls) ++ join (past folds ls) ≡ join ls =
-    sym (join-append (run folds ls) (past folds ls)) ∙ ap join (run-past folds ls) in
-    omega (arith, simp length-append at (ap length cut))
-
 pub length-within : (s : List ℕ) (n k : ℕ) → n ≡ firstLength (lines s)
     → k ≡ length (join (run folds (lines (take (length s - n) (drop n s))))) → n + k ≤ length s
 length-within s n k e q =
-    let within : k ≤ length (drop n s) = rw (q, rest s n) (rw (join-lines (drop n s)) at (folds-within (lines (drop n s)))) in
+    let within : k ≤ length (drop n s) = rw (q, rest s n) (rw (join-lines (drop n s)) at (run-shorter folds (lines (drop n s)))) in
     omega (arith, e, within, first-within s, length-drop n s)
 
 -- the first line's answer, with the length of the trailer
@@ -83,5 +77,5 @@ start-within s = of (lines s) (join-lines s)
         by : (b : Bool) → trailerLine l ≡ b → Within (length s) (atStart (l ∷ ls))
         by true q =
             let size : length l + length (join ls) ≡ length s = sym (length-append l (join ls)) ∙ ap length e in
-            rw q (omega arith, omega (arith, colon-within l (rw q tt)), omega (arith, folds-within ls))
+            rw q (omega arith, omega (arith, colon-within l (rw q tt)), omega (arith, run-shorter folds ls))
         by false q = rw q tt
