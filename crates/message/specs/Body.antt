@@ -3,16 +3,14 @@ use mathlib.Core.Bool.{Bool, true, false, _&&_}
 use mathlib.Core.List.{List, [], _∷_, _++_}
 use mathlib.Core.Option.{Option, none, some}
 use Prim.Native.Nat.{ℕ, _+_, _-_}
-use lib.Dec.{leb}
 use lib.ListN.{length, take, drop}
-use Rattle.rules.specs.Answers.{Said, says, orRefused, afterwards, placeFits}
+use Rattle.rules.specs.Answers.{Said, says, orRefused, afterwards, placeFits, rangeFits}
 use Rattle.rules.specs.Division.{Block, block, blocksFrom}
 use Rattle.rules.specs.Lists.{if_then_else_}
 use Rattle.rules.specs.Paragraph.{blockStart}
 use Rattle.rules.specs.Trailer.{Trailer, placeOf, endOf, tokenOf, rawValue, rawValueAt, unfolded, valueIsWritten, isOf, lookup, only, walkFrom}
 use Rattle.rules.specs.White.{trim, trimAt}
 use Rattle.rules.specs.declared.Kind.{Kind}
-use Rattle.rules.specs.declared.Value.{Value}
 
 -- ---- values
 
@@ -80,9 +78,6 @@ findBuffer body name out = afterwards (body ∷ name ∷ []) true (foundWrites (
 
 -- ---- the seven attribution questions, about the part of the input from `start` up to `end`
 
-abbrev pub rangeFits : ℕ → ℕ → List ℕ → Bool
-rangeFits start end s = leb start end && leb end (length s)
-
 abbrev pub questionAnswer : Kind → List ℕ → ℕ → ℕ → Said
 questionAnswer kind s start end =
     orRefused (s ∷ []) (rangeFits start end s) 0 0 (says 0 ((if isOf kind (take (end - start) (drop start s)) then 1 else 0) ∷ []))
@@ -102,12 +97,3 @@ blockSays body at (block m t ∷ bs) =
 abbrev pub blockAnswer : List ℕ → ℕ → ℕ → Said
 blockAnswer body at start =
     orRefused (body ∷ []) (placeFits at body && placeFits start body) 0 0 (blockSays body at (blocksFrom body at start))
-
--- ---- the viewer: "a part of the message or a part of the buffer [..]. A range that doesn't fit there shows an empty part."
-
-abbrev pub partOf : List ℕ → ℕ → ℕ → List ℕ
-partOf s start end = if rangeFits start end s then take (end - start) (drop start s) else []
-
-abbrev pub viewOf : List ℕ → List ℕ → Value → List ℕ
-viewOf message buffer (Value.InInput p) = partOf message (p .start) (p .end)
-viewOf message buffer (Value.InBuffer p) = partOf buffer (p .start) (p .end)

@@ -1,11 +1,11 @@
 -- The limit, the refusals and the answers: document 01, "The limit and the refusals".
 -- For every answer of the calls its number and its values, as document 01 gives them. An answer that is no refusal has the
 -- number 0 (not document 01's: a fill-in, so that every answer has one).
-use mathlib.Core.Bool.{Bool, not}
+use mathlib.Core.Bool.{Bool, not, _&&_}
 use mathlib.Core.List.{List, [], _∷_, _++_}
-use Prim.Native.Nat.{ℕ}
+use Prim.Native.Nat.{ℕ, _-_}
 use lib.Dec.{leb, ltb}
-use lib.ListN.{length, drop}
+use lib.ListN.{length, take, drop}
 use Rattle.rules.specs.Lists.{if_then_else_, any}
 use Rattle.rules.specs.declared.BlockCursor.{BlockCursor}
 use Rattle.rules.specs.declared.BlockStep.{BlockStep}
@@ -54,6 +54,18 @@ afterwards inputs fit written buffer =
 -- "a position [..] is past the input"; "a range end is past the input, or a range starts after its end"
 abbrev pub placeFits : ℕ → List ℕ → Bool
 placeFits at s = leb at (length s)
+
+abbrev pub rangeFits : ℕ → ℕ → List ℕ → Bool
+rangeFits start end s = leb start end && leb end (length s)
+
+-- "A reader's view of a value is a part of the message or a part of the buffer, according to which of the two holds it. A
+-- range that doesn't fit there shows an empty part. This one call gives no refusal, at any length."
+abbrev pub partOf : List ℕ → ℕ → ℕ → List ℕ
+partOf s start end = if rangeFits start end s then take (end - start) (drop start s) else []
+
+abbrev pub viewOf : List ℕ → List ℕ → Value → List ℕ
+viewOf message buffer (Value.InInput p) = partOf message (p .start) (p .end)
+viewOf message buffer (Value.InBuffer p) = partOf buffer (p .start) (p .end)
 
 -- ---- the answers
 
