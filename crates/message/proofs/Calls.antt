@@ -15,6 +15,7 @@ use Rattle.rules.specs.Answers.{Said, says, afterwards, limit, refused, valueSa
 use Rattle.rules.specs.Division.{Block, block}
 use Rattle.rules.specs.Lists.{if_then_else_}
 use Rattle.rules.specs.Paragraph.{blockStart}
+use Rattle.rules.specs.Summary.{many, pieces, spaced, summary, summaryIsWritten}
 use Rattle.rules.specs.Trailer.{Trailer, lookup, only, rawValue, rawValueAt, unfolded, valueIsWritten, walkFrom}
 use Rattle.rules.specs.White.{trim, trimAt}
 use Rattle.rules.specs.declared.Kind.{Kind}
@@ -26,6 +27,7 @@ use Rattle.trailer.specs.Walk.{nextOf}
 use Rattle.trailer.specs.declared.walk.NextTrailer.{NextTrailer}
 use Rattle.walk.specs.Lookup.{lookedUp}
 use Rattle.message.specs.Body.{blockSays, findAnswer, findBuffer, stepAnswer, stepBuffer, trailerAt, valueAnswer, valueAt, valueBuffer, writtenAnswer, writtenOf}
+use Rattle.message.specs.Message.{summaryAnswer, summaryBuffer}
 
 pub block-found : (body : List ℕ) (at : ℕ) (bs : List Block) {m e : ℕ} → nextBlock at bs ≡ NextBlock.Block m e
     → blockSays body at bs ≡ says 0 (m ∷ e ∷ e ∷ e ∷ [])
@@ -184,3 +186,25 @@ module _ (body name : List ℕ) (short : ltb limit (length body) ≡ false) (bri
 
     pub find-left : (out : List ℕ) → valueBuffer (take (e - (c + 1)) (drop (c + 1) body)) out ≡ findBuffer body name out
     find-left out = (rw (l .first) at (value-left body (l .f) at-u out)) ∙ rw (short, brief, l .there)
+
+-- ---- a summary, behind refusal 1: `kept` is the title without the white space at its ends
+
+module _ (title : List ℕ) (short : ltb limit (length title) ≡ false) {kept : List ℕ} (e : kept ≡ trim title) where
+  -- with an LF left in it, it is folded and written
+  pub summary-folded : many (pieces kept) ≡ true → (room : ℕ) → writtenAnswer (spaced (pieces kept)) room ≡ summaryAnswer title room
+  unfolding summary summaryIsWritten
+  summary-folded q room = rw (short, ← e, q)
+
+  pub summary-left : many (pieces kept) ≡ true → (out : List ℕ) → afterwards [] true (spaced (pieces kept)) out ≡ summaryBuffer title out
+  unfolding summary summaryIsWritten
+  summary-left q out = rw (short, ← e, q)
+
+  -- with none, it is a part of the title, and nothing is written
+  pub summary-part : many (pieces kept) ≡ false → (room : ℕ)
+      → says 0 (0 ∷ trimAt title ∷ (trimAt title + length (trim title)) ∷ []) ≡ summaryAnswer title room
+  unfolding summaryIsWritten
+  summary-part q room = rw (short, ← e, q, le-ltb room 0 (omega arith))
+
+  pub summary-keeps : many (pieces kept) ≡ false → (out : List ℕ) → out ≡ summaryBuffer title out
+  unfolding summaryIsWritten
+  summary-keeps q out = rw (short, ← e, q, le-ltb (length out) 0 (omega arith))

@@ -2,14 +2,34 @@
 pub mod body;
 pub mod decode;
 
+ghost use mathlib.Core.Bool.{true};
+ghost use mathlib.Core.List.{[]};
 ghost use mathlib.Core.Path.{_≡_};
-ghost use Rattle.rules.specs.Answers.{walkFoundSays};
-ghost use Rattle.message.specs.Message.{walkAnswer};
+ghost use lib.ListN.{length};
+ghost use Rattle.rules.specs.Answers.{afterwards, valueFoundSays, walkFoundSays};
+ghost use Rattle.rules.specs.Summary.{pieces, spaced};
+ghost use Rattle.message.specs.Body.{writtenAnswer};
+ghost use Rattle.message.specs.Message.{summaryAnswer, summaryBuffer, walkAnswer};
 use block::paragraph::trailer_block_start;
 use rules::Cursor;
 use rules::LIMIT;
+use rules::Part;
 use rules::Refusal;
+use rules::Value;
+use rules::ValueFound;
 use rules::WalkFound;
+use summary::is_written;
+use summary::summarise_into;
+use summary::summary_len;
+use text::white::trim;
+
+// The summary of a whole message, by the rule for a title. It is not always that of its title, since the body is read too.
+pub fn message_summary(message: &[u8], out: &mut [u8]) -> ValueFound
+    ensures { λ r. ⌜ valueFoundSays r ≡ summaryAnswer (now (message .entry)) (length (now (out .entry))) ⌝ }
+    ensures { λ _. ⌜ now (out .exit) ≡ summaryBuffer (now (message .entry)) (now (out .entry)) ⌝ }
+{
+    summary(message, out)
+}
 
 // Where the walk of the message's trailers begins: at the trailer block of its body, or at its end where it has none.
 pub fn message_trailers(message: &[u8]) -> WalkFound
@@ -22,4 +42,38 @@ pub fn message_trailers(message: &[u8]) -> WalkFound
     let body_start = decode::body_start(message, title_end);
     let at = body_start + trailer_block_start(&message[body_start..]);
     WalkFound::From(Cursor { at })
+}
+
+// The summary of a title: with no LF left in it once it is trimmed, that part of it; otherwise, folded, the front of `out`.
+pub fn summary(title: &[u8], out: &mut [u8]) -> ValueFound
+    ensures { λ r. ⌜ valueFoundSays r ≡ summaryAnswer (now (title .entry)) (length (now (out .entry))) ⌝ }
+    ensures { λ _. ⌜ now (out .exit) ≡ summaryBuffer (now (title .entry)) (now (out .entry)) ⌝ }
+{
+    if title.len() > LIMIT {
+        return ValueFound::Refused(Refusal::TooLong);
+    }
+    let part = trim(title);
+    let start = part.start;
+    let end = part.end;
+    let message = &title[start..end];
+    if is_written(message) {
+        return summarise(message, out);
+    }
+    ValueFound::At(Value::InInput(Part { start, end }))
+}
+
+// The summary of a message that is trimmed and has an LF left: written to the front of `out`, where there is room.
+fn summarise(message: &[u8], out: &mut [u8]) -> ValueFound
+    ensures { λ r. ⌜ valueFoundSays r ≡ writtenAnswer (spaced (pieces (now (message .entry)))) (length (now (out .entry))) ⌝ }
+    ensures { λ _. ⌜ now (out .exit) ≡ afterwards [] true (spaced (pieces (now (message .entry)))) (now (out .entry)) ⌝ }
+{
+    let needed = summary_len(message);
+    if out.len() < needed {
+        return ValueFound::Refused(Refusal::NoRoom(needed));
+    }
+    summarise_into(message, out, needed);
+    ValueFound::At(Value::InBuffer(Part {
+        start: 0,
+        end: needed,
+    }))
 }

@@ -1,0 +1,72 @@
+-- `message::summary` meets its contract: the part that `trim` answers is read as it is, or folded. Assumes nothing.
+use mathlib.Core.Path.{sym, _∙_}
+use native.Mathlib.Omega.{arith}
+use borrow.Author.Needs.{needs}
+use borrow.Author.Tests.{lt-ltb, le-ltb}
+use lib.ListN.{length}
+use Rattle.rules.proofs.White.{trim-fits}
+use Rattle.rules.specs.Answers.{limit}
+use Rattle.text.proofs.Parts.{kept-part}
+use Rattle.message.proofs.Calls.{summary-folded, summary-left, summary-part, summary-keeps}
+use Rattle.message.proofs.summary.Statement.{statement}
+use Rattle.message.proofs.summary.Tie as tie
+
+returns : tie.Need-returns
+returns c = let k = lt-ltb limit _ (c .if1 .taken) in (rw k, rw k)
+
+trim-requires : tie.Need-trim-requires
+trim-requires c κs = search needs
+
+sub-message : tie.Need-sub-message
+sub-message c = search needs
+
+part-message-start : tie.Need-part-message-start
+part-message-start c = search needs
+
+part-message-end : tie.Need-part-message-end
+part-message-end c = omega (arith, trim-fits (c .before .before .before .before .args .title .now), c .trim .ensures)
+
+is-written-requires : tie.Need-is-written-requires
+is-written-requires c κs = search needs
+
+summarise-requires : tie.Need-summarise-requires
+summarise-requires c κs = search needs
+
+same-length : tie.Need-same-length
+same-length c = search needs
+
+returns-2 : tie.Need-returns-2
+returns-2 c =
+    let title = c .before .before .before .before .before .before .before .before .before .before .before .args .title .now in
+    let out = c .before .before .before .before .before .before .before .before .before .before .before .args .out .now in
+    let short = le-ltb limit _ (c .before .before .before .before .before .before .before .before .if1 .left) in
+    let kept = kept-part title (c .before .before .before .before .before .before .before .trim .ensures) in
+    let q = sym (c .before .before .before .before .before .is-written .ensures) ∙ c .before .before .before .before .if2 .taken in (
+      c .before .before .summarise .ensures .0 ∙ summary-folded title short kept q (length out),
+      c .before .before .summarise .ensures .1 ∙ summary-left title short kept q out,
+    )
+
+returns-3 : tie.Need-returns-3
+returns-3 c =
+    let title = c .before .before .before .before .before .before .before .args .title .now in
+    let out = c .before .before .before .before .before .before .before .args .out .now in
+    let short = le-ltb limit _ (c .before .before .before .before .if1 .left) in
+    let part = c .before .before .before .trim .ensures in
+    let kept = kept-part title part in
+    let q = sym (c .before .is-written .ensures) ∙ c .if2 .left in
+    (rw (part .0, part .1) (summary-part title short kept q (length out)), summary-keeps title short kept q out)
+
+pub summary-spec : {M : Type 1} → statement M
+summary-spec =
+    tie.close
+    (tie.spec
+    returns
+    trim-requires
+    sub-message
+    part-message-start
+    part-message-end
+    is-written-requires
+    summarise-requires
+    same-length
+    returns-2
+    returns-3)
