@@ -1,6 +1,6 @@
 -- The backward scan: its counts are those of the tree of the lines that it has seen (counted-put), they are small enough to be
 -- summed and tripled (counted-within), a blank line above the paragraph settles them (closed), and they give the block start
--- (start-by-scan). Assumes nothing.
+-- (start-decided). Assumes nothing.
 use mathlib.Core.Bool.{Bool, true, false, true≢false, false≢true}
 use mathlib.Core.List.{List, [], _∷_, _++_, append-assoc, append-nil, dropLast}
 use mathlib.Core.Logic.{inl, inr}
@@ -8,17 +8,18 @@ use mathlib.Core.Path.{_≡_, refl, sym, ap, _∙_}
 use Prim.Native.Nat.{ℕ, _+_, _*_, _≤_}
 use native.Mathlib.Nat.{add-comm, zero-add}
 use native.Mathlib.Omega.{arith}
-use lib.Dec.{T, eqb}
+use lib.Dec.{T, T-not, not-T, eqb}
 use lib.ListN.{length, take, length-append}
 use lib.Seq.{take-append-seam}
 use Rattle.rules.specs.Bytes.{bytes}
 use Rattle.rules.specs.Lines.{Line, lines, text, blank, indented, folds}
 use Rattle.rules.specs.Lists.{if_then_else_, All, filled, join, starts}
-use Rattle.rules.specs.Paragraph.{recognised, leads, Group, Grouped, grouped, groupedLines, leadCount, otherCount, anyRecognised, accepts, accepted}
-use Rattle.rules.specs.Paragraph.{Above, nothing, atTop, under, aboveLines, solid, Body, empty, ended, bodyLines, blockAt, startOf, onto, put, parse, blockStart}
+use Rattle.rules.specs.Paragraph.{recognised, leads, Group, Grouped, grouped, groupedLines, leadCount, otherCount, anyRecognised}
+use Rattle.rules.specs.Paragraph.{accepts, accepted, Above, nothing, atTop, under, aboveLines, solid, Body, empty, ended, bodyLines}
+use Rattle.rules.specs.Paragraph.{blockAt, startOf, onto, put, parse, blockStart}
 use Rattle.rules.specs.Trailer.{trailerLine, tokenIn}
 use Rattle.rules.proofs.Lines.{filled-lines, join-lines, lines-prefix}
-use Rattle.rules.proofs.Lists.{and-right, or-cases, filled-some, is-true, is-false, join-append}
+use Rattle.rules.proofs.Lists.{and-right, or-cases, or-left, filled-some, is-true, is-false, join-append}
 use Rattle.rules.proofs.Paragraph.{leads-not-folds, parse-lines}
 use Rattle.rules.proofs.Trailer.{trailer-line}
 use Rattle.block.specs.declared.paragraph.Scan.{Scan}
@@ -37,21 +38,22 @@ Open (ended (under ls l b) p bs) = ⊥
 same-counts : {saw one : Bool} {t u n m p q : ℕ} → t ≡ u → n ≡ m → p ≡ q → counts saw one t n p ≡ counts saw one u m q
 same-counts e f g = rw (e, f, g)
 
+not-recognised : (l : Line) → leads l ≡ false → recognised l ≡ false
+unfolding leads
+not-recognised l e = is-false (recognised l) (not-T (recognised l) (λ r. T-not (leads l) (rw e tt) (or-left (recognised l) (trailerLine l) r)))
+
 counted-onto : (saw : Bool) (l : Line) (top : List Line) (gs : List Group) (bs : List Line) → T (solid l)
     → counted (ended nothing (onto (folds l) l (grouped top gs)) bs)
     ≡ scanned l (counts saw (anyRecognised gs) (leadCount gs) (otherCount gs) (length top))
-unfolding leads folds
-counted-onto saw l top gs bs s = by (recognised l) (trailerLine l) (indented l) refl refl refl
+unfolding folds
+counted-onto saw l top gs bs s = by (leads l) (indented l) refl refl
   where
-    by : (r t i : Bool) → recognised l ≡ r → trailerLine l ≡ t → indented l ≡ i
+    by : (b i : Bool) → leads l ≡ b → indented l ≡ i
         → counted (ended nothing (onto (folds l) l (grouped top gs)) bs)
         ≡ scanned l (counts saw (anyRecognised gs) (leadCount gs) (otherCount gs) (length top))
-    by true t i r-is t-is i-is =
-        simp (r-is, is-false (folds l) (leads-not-folds l (rw r-is tt))) (same-counts (omega arith) (omega arith) refl)
-    by false true i r-is t-is i-is =
-        simp (r-is, t-is, is-false (folds l) (leads-not-folds l (rw (r-is, t-is) tt))) (same-counts (omega arith) (omega arith) refl)
-    by false false true r-is t-is i-is = simp (r-is, t-is, i-is, is-false (blank l) s) (same-counts refl refl (omega arith))
-    by false false false r-is t-is i-is = simp (r-is, t-is, i-is) (same-counts (omega arith) (omega arith) refl)
+    by true i e f = simp (e, is-false (folds l) (leads-not-folds l (rw e tt))) (same-counts (omega arith) (omega arith) refl)
+    by false true e f = simp (e, f, is-false (blank l) s) (same-counts refl refl (omega arith))
+    by false false e f = simp (e, f, not-recognised l e) (same-counts (omega arith) (omega arith) refl)
 
 pub counted-put : (l : Line) (t : Body) → T (solid l) → Open t → counted (put false l t) ≡ scanned l (counted t)
 counted-put l (empty bs) s o = counted-onto false l [] [] bs s
@@ -66,7 +68,8 @@ open-put l (ended (atTop b) p bs) o = o
 open-put l (ended (under ls m b) p bs) o = o
 
 -- blank lines below the paragraph change nothing
-pub blank-put : (l : Line) (t : Body) → Open t → counted t .«saw_non_blank_line» ≡ false → Open (put true l t) × (counted (put true l t) ≡ counted t)
+pub blank-put : (l : Line) (t : Body) → Open t → counted t .«saw_non_blank_line» ≡ false
+    → Open (put true l t) × (counted (put true l t) ≡ counted t)
 blank-put l (empty bs) o n = (tt, refl)
 blank-put l (ended a (grouped top gs) bs) o n = absurd (true≢false n)
 
@@ -89,17 +92,20 @@ trailer-two l t =
     let r = trailer-line l t in
     omega (arith, filled-some (tokenIn l) (r .not-empty), simp length-append at (ap length (r .read)))
 
+leads-two : (l : Line) → T (leads l) → 2 ≤ length l
+unfolding leads
+leads-two l h = elim (or-cases (recognised l) (trailerLine l) h) [ inl r ↦ recognised-two l r | inr t ↦ trailer-two l t ]
+
 abbrev pub weight : Scan → ℕ
 weight s = 2 * s .«trailer_lines» + s .«non_trailer_lines» + s .«possible_continuation_lines»
 
 scanned-within : (l : Line) (s : Scan) → T (filled l) → weight (scanned l s) ≤ weight s + length l
-scanned-within l s f = by (recognised l) (trailerLine l) (indented l) refl refl refl
+scanned-within l s f = by (leads l) (indented l) refl refl
   where
-    by : (r t i : Bool) → recognised l ≡ r → trailerLine l ≡ t → indented l ≡ i → weight (scanned l s) ≤ weight s + length l
-    by true t i r-is t-is i-is = simp r-is (omega (arith, recognised-two l (rw r-is tt)))
-    by false true i r-is t-is i-is = simp (r-is, t-is) (omega (arith, trailer-two l (rw t-is tt)))
-    by false false true r-is t-is i-is = simp (r-is, t-is, i-is) (omega (arith, filled-some l f))
-    by false false false r-is t-is i-is = simp (r-is, t-is, i-is) (omega (arith, filled-some l f))
+    by : (b i : Bool) → leads l ≡ b → indented l ≡ i → weight (scanned l s) ≤ weight s + length l
+    by true i e g = simp e (omega (arith, leads-two l (rw e tt)))
+    by false true e g = simp (e, g) (omega (arith, filled-some l f))
+    by false false e g = simp (e, g) (omega (arith, filled-some l f))
 
 put-within : (b : Bool) (l : Line) (t : Body) → b ≡ blank l → T (filled l) → weight (counted (put b l t)) ≤ weight (counted t) + length l
 put-within true l (empty bs) e f = omega arith
@@ -145,7 +151,7 @@ closed end us ls b q o n t = by (parse ls) refl o n
     by (ended (atTop c) p bs) e w m = absurd w
     by (ended (under ms k c) p bs) e w m = absurd w
 
--- ---- where there is none, it starts at 0
+-- where no blank line stands above, the paragraph starts at 0
 pub unclosed : (t : Body) → Open t → lastParagraph t ≡ paragraph 0 (counted t)
 unclosed (empty bs) o = refl
 unclosed (ended nothing (grouped top gs) bs) o = refl
@@ -158,7 +164,8 @@ start-in : (t : Body) → startIn t ≤ length (join (bodyLines t))
 start-in (empty bs) = omega arith
 start-in (ended a p bs) = simp (join-append, length-append) (omega arith)
 
-pub paragraph-within : (body : List ℕ) (p : Paragraph) → p ≡ lastParagraph (parse (lines body)) → (p .start ≤ length body) × (weight (p .scan) ≤ length body)
+pub paragraph-within : (body : List ℕ) (p : Paragraph) → p ≡ lastParagraph (parse (lines body))
+    → (p .start ≤ length body) × (weight (p .scan) ≤ length body)
 paragraph-within body p e =
     rw e (rw (parse-lines (lines body), join-lines body) at (start-in (parse (lines body))), counted-within body)
 

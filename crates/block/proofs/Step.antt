@@ -23,7 +23,11 @@ use Rattle.trailer.specs.declared.line.TrailerAtStart.{TrailerAtStart}
 use Rattle.trailer.proofs.AtStart.{start-within}
 use Rattle.trailer.proofs.ByLines.{line-then, line-length}
 use Rattle.block.specs.declared.walk.NextBlock.{NextBlock}
-use Rattle.block.specs.Step.{messageLines, partLines, nextBlock}
+use Rattle.block.specs.Step.{messageLines, messageLength, partLines, partLength, nextBlock}
+
+-- `&s[at..]`
+abbrev pub onward : List ℕ → ℕ → List ℕ
+onward s at = take (length s - at) (drop at s)
 
 -- ---- what an answer of `trailer_at_start` tells of the lines from there on
 
@@ -36,7 +40,10 @@ unfolding atStart
 first-told [] r e = ap isTrailer e
 first-told (l ∷ ls) r e = by (trailerLine l) ∙ ap isTrailer e
   where
-    by : (b : Bool) → b ≡ isTrailer (if b then TrailerAtStart.Trailer (length (tokenIn l)) (length (tokenIn l) + length (gapIn l)) (length l + length (join (run folds ls))) else TrailerAtStart.NoTrailer)
+    by : (b : Bool)
+        → b ≡ isTrailer (if b
+        then TrailerAtStart.Trailer (length (tokenIn l)) (length (tokenIn l) + length (gapIn l)) (length l + length (join (run folds ls)))
+        else TrailerAtStart.NoTrailer)
     by true = refl
     by false = refl
 
@@ -46,17 +53,18 @@ trailer-stops : (ls : List Line) → first trailerLine ls ≡ true → messageLi
 trailer-stops [] e = refl
 trailer-stops (l ∷ ls) e = rw e
 
-line-passes : (l : Line) (ls : List Line) → trailerLine l ≡ false → length (join (messageLines (l ∷ ls))) ≡ length l + length (join (messageLines ls))
+line-passes : (l : Line) (ls : List Line) → trailerLine l ≡ false
+    → length (join (messageLines (l ∷ ls))) ≡ length l + length (join (messageLines ls))
 line-passes l ls e = rw e (length-append l (join (messageLines ls)))
 
 module _ (s : List ℕ) (at : ℕ) where
-  pub message-ends : {token separator len : ℕ} → atStart (lines (take (length s - at) (drop at s))) ≡ TrailerAtStart.Trailer token separator len
-      → length (join (messageLines (lines (drop at s)))) ≡ 0
+  pub message-ends : {token separator len : ℕ} → atStart (lines (onward s at)) ≡ TrailerAtStart.Trailer token separator len
+      → messageLength (drop at s) ≡ 0
   message-ends q = rw (trailer-stops (lines (drop at s)) (first-told (lines (drop at s)) _ (rw rest at q)))
 
-  pub message-line : (n : ℕ) → at < length s → atStart (lines (take (length s - at) (drop at s))) ≡ TrailerAtStart.NoTrailer
-      → n ≡ firstLength (lines (take (length s - at) (drop at s)))
-      → length (join (messageLines (lines (drop at s)))) ≡ n + length (join (messageLines (lines (drop (at + n) s))))
+  pub message-line : (n : ℕ) → at < length s → atStart (lines (onward s at)) ≡ TrailerAtStart.NoTrailer
+      → n ≡ firstLength (lines (onward s at))
+      → messageLength (drop at s) ≡ n + messageLength (drop (at + n) s)
   message-line n h q e =
       let cut : lines (drop at s) ≡ take (at + n - at) (drop at s) ∷ lines (drop (at + n) s) = line-then s at n h e in
       let none : trailerLine (take (at + n - at) (drop at s)) ≡ false = rw cut at (first-told (lines (drop at s)) _ (rw rest at q)) in
@@ -86,7 +94,7 @@ none-stops (l ∷ ls) e = rw e
 
 -- a trailer at the front of `s`, `len` bytes long
 trailer-passes : (s : List ℕ) (len : ℕ) (l : Line) (ls : List Line) → lines s ≡ l ∷ ls → trailerLine l ≡ true
-    → len ≡ length l + length (join (run folds ls)) → length (join (partLines (lines s))) ≡ len + length (join (partLines (lines (drop len s))))
+    → len ≡ length l + length (join (run folds ls)) → partLength s ≡ len + partLength (drop len s)
 trailer-passes s len l ls e t n =
     let size : len ≡ length (join (l ∷ run folds ls)) = n ∙ sym (length-append l (join (run folds ls))) in
     let behind : lines (drop len s) ≡ past folds ls =
@@ -94,22 +102,22 @@ trailer-passes s len l ls e t n =
     rw (behind, e, t, run-part ls) (simp (join-append, length-append) (omega arith))
 
 module _ (s : List ℕ) (at : ℕ) where
-  pub part-ends : atStart (lines (take (length s - at) (drop at s))) ≡ TrailerAtStart.NoTrailer → length (join (partLines (lines (drop at s)))) ≡ 0
+  pub part-ends : atStart (lines (onward s at)) ≡ TrailerAtStart.NoTrailer → partLength (drop at s) ≡ 0
   part-ends q = rw (none-stops (lines (drop at s)) (first-told (lines (drop at s)) _ (rw rest at q)))
 
   pub trailer-within : {token separator len : ℕ} → at ≤ length s
-      → atStart (lines (take (length s - at) (drop at s))) ≡ TrailerAtStart.Trailer token separator len → (0 < len) × (at + len ≤ length s)
+      → atStart (lines (onward s at)) ≡ TrailerAtStart.Trailer token separator len → (0 < len) × (at + len ≤ length s)
   trailer-within h q =
-      let (x, y, z) = rw q at (start-within (take (length s - at) (drop at s))) in
+      let (x, y, z) = rw q at (start-within (onward s at)) in
       (omega (arith, y), omega (arith, z, length-take-le (length s - at) (drop at s) (omega (arith, length-drop at s))))
 
-  pub part-trailer : {token separator len : ℕ} → atStart (lines (take (length s - at) (drop at s))) ≡ TrailerAtStart.Trailer token separator len
-      → length (join (partLines (lines (drop at s)))) ≡ len + length (join (partLines (lines (drop (at + len) s))))
+  pub part-trailer : {token separator len : ℕ} → atStart (lines (onward s at)) ≡ TrailerAtStart.Trailer token separator len
+      → partLength (drop at s) ≡ len + partLength (drop (at + len) s)
   unfolding atStart
   part-trailer {token} {separator} {len} q = of (lines (drop at s)) refl (rw rest at q)
     where
       of : (ls : List Line) → lines (drop at s) ≡ ls → atStart ls ≡ TrailerAtStart.Trailer token separator len
-          → length (join (partLines (lines (drop at s)))) ≡ len + length (join (partLines (lines (drop (at + len) s))))
+          → partLength (drop at s) ≡ len + partLength (drop (at + len) s)
       of [] e f = cc
       of (l ∷ ls) e f =
           let t : trailerLine l ≡ true = first-told (l ∷ ls) _ f in
@@ -134,18 +142,25 @@ one-message (c ∷ s) f = rw append-nil
 
 -- the first block of a body that is not empty, and those behind it
 first-block : (body : List ℕ) (start : ℕ) → T (filled body)
-    → (bs : List Block) × (blocks body start
-    ≡ block (take start body ++ join (messageLines (lines (drop start body)))) (join (partLines (past plain (lines (drop start body))))) ∷ bs)
+    → let ls = lines (drop start body) in
+    (bs : List Block) × (blocks body start ≡ block (take start body ++ join (messageLines ls)) (join (partLines (past plain ls))) ∷ bs)
 first-block body start f = by (drop start body) refl
   where
-    by : (rest : List ℕ) → drop start body ≡ rest → (bs : List Block) × (blocks body start
-        ≡ block (take start body ++ join (messageLines (lines (drop start body)))) (join (partLines (past plain (lines (drop start body))))) ∷ bs)
+    by : (rest : List ℕ) → drop start body ≡ rest
+        → let ls = lines (drop start body) in
+        (bs : List Block) × (blocks body start ≡ block (take start body ++ join (messageLines ls)) (join (partLines (past plain ls))) ∷ bs)
     by [] e =
         let whole : take start body ≡ body = sym (append-nil (take start body)) ∙ rw e at (take-append-drop start body) in
         ([], blocks-end body start e ∙ rw e (one-message (take start body) (rw whole f)))
     by (c ∷ s) e =
         let ls : List Line = lines (drop start body) in
-        (blocks (join (past inPart (past plain ls))) 0, rw (← part-lines (past plain ls) (past-stops plain ls)) (blocks-forward body start (rw e tt)))
+        let part : run inPart (past plain ls) ≡ partLines (past plain ls) = part-lines (past plain ls) (past-stops plain ls) in
+        (blocks (join (past inPart (past plain ls))) 0, rw (← part) (blocks-forward body start (rw e tt)))
+
+-- at the body's end there is none
+pub no-block : (body : List ℕ) (at start : ℕ) → at ≡ length body → nextBlock at (blocksFrom body at start) ≡ NextBlock.End
+no-block body at start e =
+    rw (e, drop-length, blocks-end [] (start - length body) (drop-nil (start - length body)), take-nil)
 
 same-ends : {a b c d : ℕ} → a ≡ c → b ≡ d → NextBlock.Block a b ≡ NextBlock.Block c d
 same-ends e f = cc
@@ -155,7 +170,8 @@ drop-filled s at h = rw (drop-cons s at 0) tt
 
 run-within : (p : Line → Bool) (ls : List Line) → length (join (run p ls)) ≤ length (join ls)
 run-within p ls =
-    omega (arith, length-append (join (run p ls)) (join (past p ls)), ap length (sym (join-append (run p ls) (past p ls)) ∙ ap join (run-past p ls)))
+    let cut : join (run p ls) ++ join (past p ls) ≡ join ls = sym (join-append (run p ls) (past p ls)) ∙ ap join (run-past p ls) in
+    omega (arith, simp length-append at (ap length cut))
 
 part-within : (ls : List Line) → length (join (partLines ls)) ≤ length (join ls)
 part-within [] = omega arith
@@ -166,12 +182,12 @@ part-within (l ∷ ls) = elim (trailerLine l) as (λ b. length (join (if b then 
 
 -- `m` bytes of message behind `from`, and `p` bytes of trailers behind them, as they are found in what is handed on
 module _ (body : List ℕ) (from m : ℕ) (l : from ≤ length body)
-    (e : m ≡ length (join (messageLines (lines (take (length body - from) (drop from body)))))) where
+    (e : m ≡ messageLength (onward body from)) where
   pub message-within : from + m ≤ length body
   message-within =
       omega (arith, rw rest at e, run-within plain (lines (drop from body)), ap length (join-lines (drop from body)), length-drop from body)
 
-  module _ (p : ℕ) (q : p ≡ length (join (partLines (lines (take (length body - (from + m)) (drop (from + m) body)))))) where
+  module _ (p : ℕ) (q : p ≡ partLength (onward body (from + m))) where
     pub trailers-within : from + m + p ≤ length body
     trailers-within =
         let rest-of : List ℕ = drop (from + m) body in
@@ -187,11 +203,7 @@ module _ (body : List ℕ) (from m : ℕ) (l : from ≤ length body)
         length-take-le (start - at) (drop at body) (omega (arith, length-drop at body)) in
         let message : m ≡ length (join (messageLines ls)) = rw rest at e in
         let behind : lines (drop (from + m) body) ≡ past plain ls =
-        ap lines (sym (drop-drop m from body)) ∙ lines-behind (drop from body) m (run plain ls) (past plain ls) (sym (run-past plain ls)) message in
+        ap lines (sym (drop-drop m from body))
+        ∙ lines-behind (drop from body) m (run plain ls) (past plain ls) (sym (run-past plain ls)) message in
         let part : p ≡ length (join (partLines (past plain ls))) = rw (rest, behind) at q in
         rw (first, here, length-append, size, ← message, ← part) (same-ends (omega arith) (omega arith))
-
--- at the body's end there is none
-pub no-block : (body : List ℕ) (at start : ℕ) → at ≡ length body → nextBlock at (blocksFrom body at start) ≡ NextBlock.End
-no-block body at start e =
-    rw (e, drop-length, blocks-end [] (start - length body) (drop-nil (start - length body)), take-nil)

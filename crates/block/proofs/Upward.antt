@@ -5,12 +5,13 @@ use mathlib.Core.List.{List, [], _∷_, _++_, append-assoc, append-nil}
 use mathlib.Core.Path.{_≡_, refl, sym, ap, _∙_}
 use Prim.Native.Nat.{ℕ, zero, suc, _+_, _-_, _≤_, _<_}
 use native.Mathlib.Omega.{arith}
+use lib.Dec.{T}
 use lib.ListN.{length, take, drop, length-append, length-drop}
 use lib.Seq.{drop-at, drop-length, length-take-le, take-add, take-length}
 use Rattle.rules.specs.Bytes.{blankByte}
 use Rattle.rules.specs.Lines.{Line, lines, text}
 use Rattle.rules.specs.Lists.{all, join}
-use Rattle.rules.specs.Paragraph.{put, parse}
+use Rattle.rules.specs.Paragraph.{solid, Body, put, parse}
 use Rattle.rules.proofs.Lines.{join-lines, lines-from, text-ending}
 use Rattle.rules.proofs.Lists.{cut-unique}
 use Rattle.text.specs.Lines.{behindLF, lineStart}
@@ -81,12 +82,14 @@ module _ (body : List ℕ) (start end : ℕ) (s : start ≡ lineStart body end) 
   unfolding behindLF text
   text-end-is = by end s h
     where
-      by : (k : ℕ) → start ≡ lineStart body k → k ≤ length body → start + length (text (part body start k)) ≡ textEnd (lines (take k body))
+      by : (k : ℕ) → start ≡ lineStart body k → k ≤ length body
+          → start + length (text (part body start k)) ≡ textEnd (lines (take k body))
       by zero e l = rw e
       by (suc n) e l =
           rw (last-part body start (suc n) e l (omega arith), text-end, join-lines, sizes body start (suc n) e l .0)
 
-  pub end-above-is : (k : ℕ) → end ≡ lineStart body k → k ≤ length body → start + length (text (part body start end)) ≡ endAbove (lines (take k body))
+  pub end-above-is : (k : ℕ) → end ≡ lineStart body k → k ≤ length body
+      → start + length (text (part body start end)) ≡ endAbove (lines (take k body))
   unfolding behindLF
   end-above-is zero e l = text-end-is ∙ rw e
   end-above-is (suc n) e l = text-end-is ∙ rw (last-part body end (suc n) e l (omega arith), drop-last)
@@ -106,40 +109,44 @@ at-end body =
     record { inside = omega arith; cut = rw (none, take-length, append-nil); below = rw none tt; seen = rw none }
 
 module _ (body : List ℕ) (start end : ℕ) (s : start ≡ lineStart body end) (z : 0 < end) (scan : Scan) (a : At body end scan) where
-  next-tree : (b : Bool) → b ≡ all blankByte (part body start end)
-      → parse (lines (drop start body)) ≡ put b (part body start end) (parse (lines (drop end body)))
+  abbrev line : Line
+  line = part body start end
+
+  abbrev tree : Body
+  tree = parse (lines (drop end body))
+
+  next-tree : (b : Bool) → b ≡ all blankByte line → parse (lines (drop start body)) ≡ put b line tree
   next-tree b e =
-      ap parse (line-above body start end s (a .inside) z (a .cut))
-      ∙ ap (λ (x : Bool). put x (part body start end) (parse (lines (drop end body)))) (blank-all (part body start end) ∙ sym e)
+      ap parse (line-above body start end s (a .inside) z (a .cut)) ∙ ap (λ (x : Bool). put x line tree) (blank-all line ∙ sym e)
+
+  next-at : (next : Scan) (t : Body) → parse (lines (drop start body)) ≡ t → Open t → next ≡ counted t → At body start next
+  next-at next t e o n =
+      record {
+        inside = within body start end s (a .inside);
+        cut = cut-above body start end s (a .inside);
+        below = rw e o;
+        seen = rw e n;
+      }
 
   -- one line more that is not blank
-  pub at-solid : (next : Scan) → false ≡ all blankByte (part body start end) → next ≡ scanned (part body start end) scan → At body start next
+  pub at-solid : (next : Scan) → false ≡ all blankByte line → next ≡ scanned line scan → At body start next
   at-solid next e n =
-      record {
-        inside = within body start end s (a .inside);
-        cut = cut-above body start end s (a .inside);
-        below = rw (next-tree false e) (open-put (part body start end) (parse (lines (drop end body))) (a .below));
-        seen = n ∙ rw (next-tree false e, a .seen)
-            (sym (counted-put (part body start end) (parse (lines (drop end body))) (rw (blank-all (part body start end), ← e) tt) (a .below)));
-      }
+      let solid-line : T (solid line) = rw (blank-all line, ← e) tt in
+      next-at next (put false line tree) (next-tree false e) (open-put line tree (a .below))
+      (n ∙ ap (scanned line) (a .seen) ∙ sym (counted-put line tree solid-line (a .below)))
 
   -- one that is blank, below the paragraph
-  pub at-blank : true ≡ all blankByte (part body start end) → scan .«saw_non_blank_line» ≡ false → At body start scan
+  pub at-blank : true ≡ all blankByte line → scan .«saw_non_blank_line» ≡ false → At body start scan
   at-blank e n =
-      let (o, q) = blank-put (part body start end) (parse (lines (drop end body))) (a .below) (rw (a .seen) at n) in
-      record {
-        inside = within body start end s (a .inside);
-        cut = cut-above body start end s (a .inside);
-        below = rw (next-tree true e) o;
-        seen = a .seen ∙ rw (next-tree true e, q);
-      }
+      let (o, q) = blank-put line tree (a .below) (rw (a .seen) at n) in
+      next-at scan (put true line tree) (next-tree true e) o (a .seen ∙ sym q)
 
   -- and one above it
-  pub at-paragraph : true ≡ all blankByte (part body start end) → scan .«saw_non_blank_line» ≡ true → lastParagraph (parse (lines body)) ≡ paragraph end scan
+  pub at-paragraph : true ≡ all blankByte line → scan .«saw_non_blank_line» ≡ true → lastParagraph (parse (lines body)) ≡ paragraph end scan
   at-paragraph e n =
       rw (lines-above body start end s (a .inside) z (a .cut), a .seen)
-      (closed end (lines (take start body)) (lines (drop end body)) (part body start end) (line-size body start end s (a .inside) z)
-      (a .below) (rw (a .seen) at n) (rw (blank-all (part body start end), ← e) tt))
+      (closed end (lines (take start body)) (lines (drop end body)) line (line-size body start end s (a .inside) z)
+      (a .below) (rw (a .seen) at n) (rw (blank-all line, ← e) tt))
 
 -- no line is left above
 pub at-top : (body : List ℕ) (scan : Scan) → At body 0 scan → lastParagraph (parse (lines body)) ≡ paragraph 0 scan

@@ -1,12 +1,11 @@
 -- What the backward scan counts of the last paragraph, read off the paragraph's tree (rules, Paragraph).
-use mathlib.Core.Bool.{Bool, true, false}
+use mathlib.Core.Bool.{Bool, true, false, _||_}
 use mathlib.Core.List.{List, [], _∷_, dropLast}
 use Prim.Native.Nat.{ℕ, _+_}
 use lib.ListN.{length}
 use Rattle.rules.specs.Lines.{Line, text, indented}
 use Rattle.rules.specs.Lists.{if_then_else_, join}
-use Rattle.rules.specs.Paragraph.{Body, empty, ended, aboveLines, grouped, recognised, leadCount, otherCount, anyRecognised}
-use Rattle.rules.specs.Trailer.{trailerLine}
+use Rattle.rules.specs.Paragraph.{Body, empty, ended, aboveLines, grouped, recognised, leads, leadCount, otherCount, anyRecognised}
 use Rattle.block.specs.declared.paragraph.Scan.{Scan}
 use Rattle.block.specs.declared.paragraph.Paragraph.{Paragraph}
 
@@ -29,8 +28,7 @@ counted (ended a (grouped top gs) bs) = counts true (anyRecognised gs) (leadCoun
 -- the counts with one more line above, which is not blank
 abbrev pub scanned : Line → Scan → Scan
 scanned l s =
-    if recognised l then counts true true (s .«trailer_lines» + 1) (s .«non_trailer_lines») 0
-    else if trailerLine l then counts true (s .«recognized_prefix») (s .«trailer_lines» + 1) (s .«non_trailer_lines») 0
+    if leads l then counts true (recognised l || s .«recognized_prefix») (s .«trailer_lines» + 1) (s .«non_trailer_lines») 0
     else if indented l then
     counts true (s .«recognized_prefix») (s .«trailer_lines») (s .«non_trailer_lines») (s .«possible_continuation_lines» + 1)
     else counts true (s .«recognized_prefix») (s .«trailer_lines») (s .«non_trailer_lines» + (1 + s .«possible_continuation_lines»)) 0

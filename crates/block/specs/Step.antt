@@ -4,8 +4,8 @@ use mathlib.Core.List.{List, [], _∷_}
 use Prim.Native.Nat.{ℕ, _+_}
 use lib.ListN.{length}
 use Rattle.rules.specs.Division.{Block, block}
-use Rattle.rules.specs.Lines.{Line, folds}
-use Rattle.rules.specs.Lists.{if_then_else_, run}
+use Rattle.rules.specs.Lines.{Line, lines, folds}
+use Rattle.rules.specs.Lists.{if_then_else_, join, run}
 use Rattle.rules.specs.Trailer.{trailerLine}
 use Rattle.block.specs.declared.walk.NextBlock.{NextBlock}
 
@@ -17,6 +17,13 @@ messageLines ls = run (λ (l : Line). not (trailerLine l)) ls
 abbrev pub partLines : List Line → List Line
 partLines [] = []
 partLines (l ∷ ls) = if trailerLine l then l ∷ run (λ (m : Line). trailerLine m || folds m) ls else []
+
+-- their lengths, of the lines of an input
+abbrev pub messageLength : List ℕ → ℕ
+messageLength s = length (join (messageLines (lines s)))
+
+abbrev pub partLength : List ℕ → ℕ
+partLength s = length (join (partLines (lines s)))
 
 -- the first of the blocks from `at` on: where its message ends, and where its trailer part does
 abbrev pub nextBlock : ℕ → List Block → NextBlock

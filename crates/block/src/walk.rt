@@ -3,9 +3,7 @@ ghost use mathlib.Core.Path.{_≡_};
 ghost use Prim.Native.Nat.{_+_, _-_, _≤_};
 ghost use lib.ListN.{length};
 ghost use Rattle.rules.specs.Division.{blocksFrom};
-ghost use Rattle.rules.specs.Lines.{lines};
-ghost use Rattle.rules.specs.Lists.{join};
-ghost use Rattle.block.specs.Step.{messageLines, nextBlock, partLines};
+ghost use Rattle.block.specs.Step.{messageLength, nextBlock, partLength};
 use text::line::line_len;
 use trailer::line::TrailerAtStart;
 use trailer::line::trailer_at_start;
@@ -28,25 +26,26 @@ fn lines_start(at: usize, start: usize) -> usize
 
 // The length of the lines at the front of `cursor`, until a trailer begins.
 fn message_len(cursor: &[u8]) -> usize
-    ensures { λ r. ⌜ r ≡ length (join (messageLines (lines (now (cursor .entry))))) ⌝ }
+    ensures { λ r. ⌜ r ≡ messageLength (now (cursor .entry)) ⌝ }
 {
     let mut len = 0;
     while len < cursor.len() {
+        let rest = &cursor[len..];
         if let TrailerAtStart::Trailer {
             token_end: _,
             separator: _,
             len: _,
-        } = trailer_at_start(&cursor[len..]) {
+        } = trailer_at_start(rest) {
             return len;
         }
-        len += line_len(&cursor[len..]);
+        len += line_len(rest);
     }
     len
 }
 
 // The length of the trailers at the front of `cursor`.
 fn trailers_len(cursor: &[u8]) -> usize
-    ensures { λ r. ⌜ r ≡ length (join (partLines (lines (now (cursor .entry))))) ⌝ }
+    ensures { λ r. ⌜ r ≡ partLength (now (cursor .entry)) ⌝ }
 {
     let mut len = 0;
     while let TrailerAtStart::Trailer {

@@ -4,3 +4,7 @@ pub mod Parsed
 pub mod ByLines
 pub mod AtStart
 pub mod Steps
+pub mod Joined
+pub mod Unfolding
+pub mod Pushed
+pub mod Written

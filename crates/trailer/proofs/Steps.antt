@@ -1,7 +1,7 @@
 -- The trailer walk by `trailer_at_start`: from a place on, it begins with the trailer that stands there, or it is the walk from the
 -- next line on. Assumes nothing.
 use mathlib.Core.Bool.{Bool, true, false}
-use mathlib.Core.List.{List, _∷_}
+use mathlib.Core.List.{List, [], _∷_}
 use mathlib.Core.Path.{_≡_, refl, _∙_}
 use Prim.Native.Nat.{ℕ, _+_, _-_, _≤_, _<_}
 use native.Mathlib.Omega.{arith}
@@ -9,7 +9,7 @@ use lib.ListN.{length, take, drop, length-append, length-drop}
 use lib.Seq.{length-take-le}
 use Rattle.rules.specs.Lines.{Line, folds, lines}
 use Rattle.rules.specs.Lists.{join, run}
-use Rattle.rules.specs.Trailer.{Trailer, trailerLine, tokenIn, gapIn, walk, walkFrom}
+use Rattle.rules.specs.Trailer.{Trailer, trailer, trailerLine, tokenIn, gapIn, placeOf, endOf, tokenOf, rawValueAt, walk, walkFrom}
 use Rattle.rules.proofs.Walk.{walk-ends}
 use Rattle.text.specs.Lines.{firstLength}
 use Rattle.text.proofs.Parts.{rest}
@@ -60,3 +60,34 @@ module _ (body : List ℕ) (at : ℕ) (h : at < length body) where
 
 pub next-ends : (body : List ℕ) (at : ℕ) → length body ≤ at → nextOf (walkFrom body at) ≡ NextTrailer.End
 next-ends body at h = rw (walk-ends body at h)
+
+-- ---- what a caller learns
+
+pub record First (ts : List Trailer) (start token separator end : ℕ) : Type 0 where
+  pub found : Trailer
+  pub later : List Trailer
+  pub walked : ts ≡ found ∷ later
+  pub starts : start ≡ placeOf found
+  pub token-ends : token ≡ placeOf found + length (tokenOf found)
+  pub value-at : separator + 1 ≡ rawValueAt found
+  pub ends : end ≡ endOf found
+
+behind-colon : (t : Trailer) (separator : ℕ) → separator ≡ rawValueAt t - 1 → separator + 1 ≡ rawValueAt t
+behind-colon (trailer at l js) separator e = omega arith
+
+pub first-is : (ts : List Trailer) {start token separator end : ℕ} → nextOf ts ≡ NextTrailer.Trailer start token separator end
+    → First ts start token separator end
+first-is [] e = let z : _≡_ {A = ℕ} 0 1 = cc in absurd (omega arith)
+first-is (t ∷ ts) {separator = separator} e = record {
+  found = t;
+  later = ts;
+  walked = refl;
+  starts = cc;
+  token-ends = cc;
+  value-at = behind-colon t separator (cc);
+  ends = cc;
+}
+
+pub none-is : (ts : List Trailer) → nextOf ts ≡ NextTrailer.End → ts ≡ []
+none-is [] e = refl
+none-is (t ∷ ts) e = cc

@@ -1,3 +1,4 @@
 // A trailer line, the trailer at a line's start, its value, and the trailer walk: the first half of the original's body.rs.
 pub mod line;
+pub mod value;
 pub mod walk;

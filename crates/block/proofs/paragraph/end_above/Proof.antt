@@ -16,7 +16,8 @@ module _ (body : List ℕ) (end blank start : ℕ) (b : blank ≡ lineStart body
   in-order : (start ≤ blank) × (blank ≤ end)
   in-order = (start-le body start blank s, start-le body blank end b)
 
-  ends : end ≤ length body → (t : List ℕ) → t ≡ text (part body start blank) → (start + length t ≤ end) × (start + length t ≡ endAbove (lines (take end body)))
+  ends : end ≤ length body → (t : List ℕ) → t ≡ text (part body start blank)
+      → (start + length t ≤ end) × (start + length t ≡ endAbove (lines (take end body)))
   ends h t e =
       let l : blank ≤ length body = omega (arith, in-order .1) in
       rw e (omega (arith, text-end-within body start blank s l, in-order .1), end-above-is body start blank s l end b h)

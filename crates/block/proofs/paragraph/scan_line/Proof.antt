@@ -5,8 +5,9 @@ use Prim.Native.Nat.{_+_}
 use borrow.Author.Needs.{needs}
 use lib.ListN.{length}
 use Rattle.rules.specs.Lines.{Line}
-use Rattle.rules.specs.Trailer.{trailerLine, tokenIn, gapIn}
 use Rattle.rules.specs.Lists.{if_then_else_}
+use Rattle.rules.specs.Paragraph.{leads}
+use Rattle.rules.specs.Trailer.{trailerLine, tokenIn, gapIn}
 use Rattle.trailer.specs.Line.{parsed}
 use Rattle.trailer.specs.declared.line.TrailerLine.{TrailerLine}
 use Rattle.block.proofs.paragraph.scan_line.Statement.{statement}
@@ -21,7 +22,8 @@ told : (l : Line) (r q : TrailerLine) → r ≡ parsed l → r ≡ q → trailer
 unfolding parsed
 told l r q e f = by (trailerLine l) ∙ ap isAt (sym e ∙ f)
   where
-    by : (b : Bool) → b ≡ isAt (if b then TrailerLine.At (length (tokenIn l)) (length (tokenIn l) + length (gapIn l)) else TrailerLine.NoTrailer)
+    by : (b : Bool)
+        → b ≡ isAt (if b then TrailerLine.At (length (tokenIn l)) (length (tokenIn l) + length (gapIn l)) else TrailerLine.NoTrailer)
     by true = refl
     by false = refl
 
@@ -32,6 +34,7 @@ add-scan : tie.Need-add-scan
 add-scan c = search needs
 
 returns : tie.Need-returns
+unfolding leads
 returns c = rw (← c .before .before .is-recognized-prefix .ensures, c .before .if1 .taken)
 
 parse-trailer-line-requires : tie.Need-parse-trailer-line-requires
@@ -44,9 +47,11 @@ add-scan-2 : tie.Need-add-scan-2
 add-scan-2 c = search needs
 
 returns-2 : tie.Need-returns-2
+unfolding leads
 returns-2 c =
     let p = c .before .before .before in
-    rw (← p .before .before .is-recognized-prefix .ensures, p .before .if1 .left, told _ _ _ (p .parse-trailer-line .ensures) (c .before .enum-told .given .1))
+    let found = told _ _ _ (p .parse-trailer-line .ensures) (c .before .enum-told .given .1) in
+    rw (← p .before .before .is-recognized-prefix .ensures, p .before .if1 .left, found)
 
 enum-told-2 : tie.Need-enum-told-2
 enum-told-2 c = search needs
@@ -58,9 +63,12 @@ add-scan-3 : tie.Need-add-scan-3
 add-scan-3 c = search needs
 
 returns-3 : tie.Need-returns-3
+unfolding leads
 returns-3 c =
     let p = c .before .before .before .before .before in
-    rw (← p .before .before .is-recognized-prefix .ensures, p .before .if1 .left, told _ _ _ (p .parse-trailer-line .ensures) (c .before .before .before .enum-told2 .given .1), ← c .before .before .is-indented .ensures, c .before .if2 .taken)
+    let none = told _ _ _ (p .parse-trailer-line .ensures) (c .before .before .before .enum-told2 .given .1) in
+    let i = c .before in
+    rw (← p .before .before .is-recognized-prefix .ensures, p .before .if1 .left, none, ← i .before .is-indented .ensures, i .if2 .taken)
 
 add-scan-4 : tie.Need-add-scan-4
 add-scan-4 c = search needs
@@ -69,9 +77,12 @@ add-scan-5 : tie.Need-add-scan-5
 add-scan-5 c = search needs
 
 returns-4 : tie.Need-returns-4
+unfolding leads
 returns-4 c =
     let p = c .before .before .before .before .before .before in
-    rw (← p .before .before .is-recognized-prefix .ensures, p .before .if1 .left, told _ _ _ (p .parse-trailer-line .ensures) (c .before .before .before .before .enum-told2 .given .1), ← c .before .before .before .is-indented .ensures, c .before .before .if2 .left)
+    let none = told _ _ _ (p .parse-trailer-line .ensures) (c .before .before .before .before .enum-told2 .given .1) in
+    let i = c .before .before in
+    rw (← p .before .before .is-recognized-prefix .ensures, p .before .if1 .left, none, ← i .before .is-indented .ensures, i .if2 .left)
 
 pub scan-line-spec : {M : Type 1} → statement M
 scan-line-spec =

@@ -24,7 +24,8 @@ accepts-as-trailer-block-requires c κs =
 returns : tie.Need-returns
 returns c =
     let q = c .before .before .before .before in
-    sym (start-decided _ _ false (q .last-paragraph .ensures) (sym (not-true _ (c .if1 .taken)) ∙ c .before .accepts-as-trailer-block .ensures))
+    let no = sym (not-true _ (c .if1 .taken)) ∙ c .before .accepts-as-trailer-block .ensures in
+    sym (start-decided _ _ false (q .last-paragraph .ensures) no)
 
 end-above-requires : tie.Need-end-above-requires
 end-above-requires c κs =
@@ -34,8 +35,8 @@ end-above-requires c κs =
 returns-2 : tie.Need-returns-2
 returns-2 c =
     let q = c .before .before .before .before .before in
-    c .end-above .ensures
-    ∙ sym (start-decided _ _ true (q .last-paragraph .ensures) (sym (not-false _ (c .before .if1 .left)) ∙ c .before .before .accepts-as-trailer-block .ensures))
+    let yes = sym (not-false _ (c .before .if1 .left)) ∙ c .before .before .accepts-as-trailer-block .ensures in
+    c .end-above .ensures ∙ sym (start-decided _ _ true (q .last-paragraph .ensures) yes)
 
 pub trailer-block-start-spec : {M : Type 1} → statement M
 trailer-block-start-spec =

@@ -5,17 +5,14 @@ use Prim.Native.Nat.{_+_, _-_, _≤_}
 use native.Mathlib.Omega.{arith}
 use borrow.Author.Needs.{needs}
 use lib.ListN.{length, drop, drop-of-length-le}
-use Rattle.rules.specs.Lines.{lines}
-use Rattle.rules.specs.Lists.{join}
 use Rattle.trailer.proofs.ByLines.{line-some, line-within}
-use Rattle.block.specs.Step.{messageLines}
+use Rattle.block.specs.Step.{messageLength}
 use Rattle.block.proofs.Step.{message-ends, message-line}
 use Rattle.block.proofs.walk.message_len.Statement.{statement}
 use Rattle.block.proofs.walk.message_len.Tie as tie
 
 abbrev Inv-loop : tie.InvT-loop
-Inv-loop cursor len₀ len =
-    (len ≤ length cursor) × (length (join (messageLines (lines cursor))) ≡ len + length (join (messageLines (lines (drop len cursor)))))
+Inv-loop cursor len₀ len = (len ≤ length cursor) × (messageLength cursor ≡ len + messageLength (drop len cursor))
 
 abbrev μ-loop : tie.MeasureT-loop
 μ-loop cursor len₀ len = length cursor - len
@@ -23,14 +20,14 @@ abbrev μ-loop : tie.MeasureT-loop
 loop-holds : tie.Need-loop-holds Inv-loop μ-loop
 loop-holds c = search needs
 
-sub-trailer-at-start : tie.Need-sub-trailer-at-start Inv-loop μ-loop
-sub-trailer-at-start c = search needs
+sub-rest : tie.Need-sub-rest Inv-loop μ-loop
+sub-rest c = search needs
 
-part-trailer-at-start-start : tie.Need-part-trailer-at-start-start Inv-loop μ-loop
-part-trailer-at-start-start c = search needs
+part-rest-start : tie.Need-part-rest-start Inv-loop μ-loop
+part-rest-start c = search needs
 
-part-trailer-at-start-end : tie.Need-part-trailer-at-start-end Inv-loop μ-loop
-part-trailer-at-start-end c = search needs
+part-rest-end : tie.Need-part-rest-end Inv-loop μ-loop
+part-rest-end c = search needs
 
 trailer-at-start-requires : tie.Need-trailer-at-start-requires Inv-loop μ-loop
 trailer-at-start-requires c κs = search needs
@@ -47,36 +44,27 @@ returns c =
 enum-told-2 : tie.Need-enum-told-2 Inv-loop μ-loop
 enum-told-2 c = search needs
 
-sub-line-len : tie.Need-sub-line-len Inv-loop μ-loop
-sub-line-len c = search needs
-
-part-line-len-start : tie.Need-part-line-len-start Inv-loop μ-loop
-part-line-len-start c = search needs
-
-part-line-len-end : tie.Need-part-line-len-end Inv-loop μ-loop
-part-line-len-end c = search needs
-
 line-len-requires : tie.Need-line-len-requires Inv-loop μ-loop
 line-len-requires c κs = search needs
 
 add-len : tie.Need-add-len Inv-loop μ-loop
 add-len c =
-    let l = c .before .before .before .before .before .before .before in
+    let l = c .before .before .before .before .before .before in
     omega (arith, line-within (l .before .before .args .cursor .now) (l .loop .len) _ (omega arith) (c .line-len .ensures))
 
 loop-less : tie.Need-loop-less Inv-loop μ-loop
 loop-less c =
-    let l = c .before .before .before .before .before .before .before in
+    let l = c .before .before .before .before .before .before in
     let s = l .before .before .args .cursor .now in
     let e = c .line-len .ensures in
     omega (arith, line-some s (l .loop .len) _ (omega arith) e, line-within s (l .loop .len) _ (omega arith) e)
 
 loop-again : tie.Need-loop-again Inv-loop μ-loop
 loop-again c =
-    let l = c .before .before .before .before .before .before .before in
+    let l = c .before .before .before .before .before .before in
     let s = l .before .before .args .cursor .now in
     let e = c .line-len .ensures in
-    let none = sym (c .before .before .before .before .trailer-at-start .ensures) ∙ c .before .before .enum-told2 .given .1 in
+    let none = sym (c .before .before .before .trailer-at-start .ensures) ∙ c .before .enum-told2 .given .1 in
     (line-within s (l .loop .len) _ (omega arith) e, omega (arith, message-line s (l .loop .len) _ (omega arith) none e))
 
 returns-2 : tie.Need-returns-2 Inv-loop μ-loop
@@ -92,16 +80,13 @@ message-len-spec =
     Inv-loop
     μ-loop
     loop-holds
-    sub-trailer-at-start
-    part-trailer-at-start-start
-    part-trailer-at-start-end
+    sub-rest
+    part-rest-start
+    part-rest-end
     trailer-at-start-requires
     enum-told
     returns
     enum-told-2
-    sub-line-len
-    part-line-len-start
-    part-line-len-end
     line-len-requires
     add-len
     loop-less

@@ -46,7 +46,8 @@ trailers-len-requires c κs = search needs
 add-end : tie.Need-add-end
 add-end c =
     let m = c .before .before in
-    let k = trailers-within (m .before .before .before .before .before .args .body .now) _ _ (search needs) (m .message-len .ensures) _ (c .trailers-len .ensures) in
+    let body = m .before .before .before .before .before .args .body .now in
+    let k = trailers-within body _ _ (search needs) (m .message-len .ensures) _ (c .trailers-len .ensures) in
     search needs
 
 returns-2 : tie.Need-returns-2

@@ -5,16 +5,13 @@ use Prim.Native.Nat.{_+_, _-_, _≤_}
 use native.Mathlib.Omega.{arith}
 use borrow.Author.Needs.{needs}
 use lib.ListN.{length, drop}
-use Rattle.rules.specs.Lines.{lines}
-use Rattle.rules.specs.Lists.{join}
-use Rattle.block.specs.Step.{partLines}
+use Rattle.block.specs.Step.{partLength}
 use Rattle.block.proofs.Step.{part-ends, part-trailer, trailer-within}
 use Rattle.block.proofs.walk.trailers_len.Statement.{statement}
 use Rattle.block.proofs.walk.trailers_len.Tie as tie
 
 abbrev Inv-loop : tie.InvT-loop
-Inv-loop cursor len₀ len =
-    (len ≤ length cursor) × (length (join (partLines (lines cursor))) ≡ len + length (join (partLines (lines (drop len cursor)))))
+Inv-loop cursor len₀ len = (len ≤ length cursor) × (partLength cursor ≡ len + partLength (drop len cursor))
 
 abbrev μ-loop : tie.MeasureT-loop
 μ-loop cursor len₀ len = length cursor - len

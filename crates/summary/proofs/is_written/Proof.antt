@@ -1,0 +1,30 @@
+-- `summary::is_written` meets its contract. Assumes nothing.
+use mathlib.Core.Bool.{Bool, true, false}
+use mathlib.Core.List.{List}
+use mathlib.Core.Path.{_≡_, refl}
+use Prim.Native.Nat.{ℕ, _+_}
+use borrow.Author.Needs.{needs}
+use borrow.Author.Tests.{ltb-true, ltb-false}
+use lib.Dec.{ltb}
+use lib.ListN.{length, drop}
+use Rattle.rules.specs.Lines.{inner}
+use Rattle.rules.specs.Lists.{run}
+use Rattle.rules.specs.Summary.{pieces, many}
+use Rattle.summary.proofs.Pieces.{some-piece, piece-at, last-piece-at}
+use Rattle.summary.proofs.is_written.Statement.{statement}
+use Rattle.summary.proofs.is_written.Tie as tie
+
+by : (s : List ℕ) (pos : ℕ) → pos ≡ 0 + length (run inner s) → (b : Bool) → ltb pos (length s) ≡ b → b ≡ many (pieces s)
+by s pos e true t = let (q, ps, o) = some-piece (drop (pos + 1) s) in rw (piece-at s 0 pos e (ltb-true _ _ t), o)
+by s pos e false t = rw (last-piece-at s 0 pos e (ltb-false _ _ t))
+
+find-byte-requires : tie.Need-find-byte-requires
+find-byte-requires c κs = search needs
+
+returns : tie.Need-returns
+returns c =
+    let s = c .before .before .args .message .now in
+    by s (c .find-byte .result) (c .find-byte .ensures) (ltb (c .find-byte .result) (length s)) refl
+
+pub is-written-spec : {M : Type 1} → statement M
+is-written-spec = tie.close (tie.spec find-byte-requires returns)

@@ -1,0 +1,125 @@
+// Summaries: the loops of the original's `summary`, for a message that is trimmed. There is no heap: the length is found first,
+// then the answer is written to the buffer's front.
+ghost use mathlib.Core.Bool.{not};
+ghost use mathlib.Core.List.{_++_};
+ghost use mathlib.Core.Path.{_≡_};
+ghost use Prim.Native.Nat.{_+_, _-_, _≤_};
+ghost use lib.Dec.{eqb};
+ghost use lib.ListN.{length, take, drop};
+ghost use Rattle.rules.specs.Lists.{run};
+ghost use Rattle.rules.specs.Summary.{dropBlanks, folded, pieces, spaced, many};
+ghost use Rattle.summary.specs.Put.{put};
+use text::line::is_ascii_whitespace;
+use text::white::trim_end;
+
+// The place of the first such byte from `at` on; the end where there is none.
+fn find_byte(s: &[u8], at: usize, byte: u8) -> usize
+    requires { ⌜ at ≤ length (now s) ⌝ }
+    ensures { λ r. ⌜ r ≡ at + length (run (λ c. not (eqb c byte)) (drop at (now (s .entry)))) ⌝ }
+{
+    let mut i = at;
+    while i < s.len() {
+        if s[i] == byte {
+            return i;
+        }
+        i += 1;
+    }
+    i
+}
+
+// The length of a piece without the ASCII blanks at its end.
+fn trim_blanks(piece: &[u8]) -> usize
+    ensures { λ r. ⌜ r ≡ length (dropBlanks (now (piece .entry))) ⌝ }
+{
+    let mut n = piece.len();
+    while n > 0 {
+        if !is_ascii_whitespace(piece[n - 1]) {
+            return n;
+        }
+        n -= 1;
+    }
+    0
+}
+
+// Whether an LF is left in a message that is trimmed, so that its summary is written.
+pub fn is_written(message: &[u8]) -> bool
+    ensures { λ r. ⌜ r ≡ many (pieces (now (message .entry))) ⌝ }
+{
+    find_byte(message, 0, b'\n') < message.len()
+}
+
+// The length of the summary of a message that is trimmed.
+pub fn summary_len(message: &[u8]) -> usize
+    ensures { λ r. ⌜ r ≡ length (spaced (pieces (now (message .entry)))) ⌝ }
+{
+    let mut len = 0;
+    let mut kept = 0;
+    let mut at = 0;
+    let mut pos = find_byte(message, 0, b'\n');
+    while pos < message.len() {
+        if pos == at {
+            return kept;
+        }
+        let piece = &message[at..pos];
+        let n = trim_end(piece);
+        if n > 0 {
+            kept = len + n;
+        }
+        len += trim_blanks(piece) + 1;
+        at = pos + 1;
+        pos = find_byte(message, at, b'\n');
+    }
+    len + (pos - at)
+}
+
+// Writes `src` to `out` from `at` on, but nothing from `end` on; gives where that ends.
+fn copy_to(src: &[u8], out: &mut [u8], at: usize, end: usize) -> usize
+    requires { ⌜ (at ≤ end) × (end ≤ length (now out)) ⌝ }
+    ensures { λ r. ⌜ r ≡ at + length (take (end - at) (now (src .entry))) ⌝ }
+    ensures { λ _. ⌜ now (out .exit) ≡ put (now (out .entry)) at (take (end - at) (now (src .entry))) ⌝ }
+{
+    let mut j = 0;
+    while j < src.len() {
+        if at + j == end {
+            return end;
+        }
+        out[at + j] = src[j];
+        j += 1;
+    }
+    at + j
+}
+
+// Writes `piece` folded, in the same way.
+fn fold_to(piece: &[u8], out: &mut [u8], at: usize, end: usize) -> usize
+    requires { ⌜ (at ≤ end) × (end ≤ length (now out)) ⌝ }
+    ensures { λ r. ⌜ r ≡ at + length (take (end - at) (folded (now (piece .entry)))) ⌝ }
+    ensures { λ _. ⌜ now (out .exit) ≡ put (now (out .entry)) at (take (end - at) (folded (now (piece .entry)))) ⌝ }
+{
+    let len = trim_blanks(piece);
+    let i = copy_to(&piece[..len], out, at, end);
+    if i == end {
+        return end;
+    }
+    out[i] = b' ';
+    i + 1
+}
+
+// Writes the summary of a message that is trimmed to the front of `out`; `n` is its length.
+pub fn summarise_into(message: &[u8], out: &mut [u8], n: usize)
+    requires { ⌜ n ≡ length (spaced (pieces (now message))) ⌝ }
+    requires { ⌜ n ≤ length (now out) ⌝ }
+    ensures { λ _. ⌜ now (out .exit) ≡ spaced (pieces (now (message .entry))) ++ drop (length (spaced (pieces (now (message .entry))))) (now (out .entry)) ⌝ }
+{
+    let mut len = 0;
+    let mut at = 0;
+    let mut pos = find_byte(message, 0, b'\n');
+    while pos < message.len() {
+        if len == n {
+            return;
+        }
+        len = fold_to(&message[at..pos], out, len, n);
+        at = pos + 1;
+        pos = find_byte(message, at, b'\n');
+    }
+    copy_to(&message[at..], out, len, n);
+}
