@@ -26,6 +26,17 @@ valueAt at raw =
     if valueIsWritten raw then 1 ∷ 0 ∷ length (unfolded raw) ∷ []
     else 0 ∷ (at + trimAt raw) ∷ (at + trimAt raw + length (trim raw)) ∷ []
 
+-- of a text that is written to the buffer's front: refusal 3, or its place
+abbrev pub writtenAnswer : List ℕ → ℕ → Said
+writtenAnswer text room = orRefused [] true (length text) room (says 0 (1 ∷ 0 ∷ length text ∷ []))
+
+-- of a value alone, behind the limit and the places: refusal 3, or the value's place, and the buffer
+abbrev pub valueAnswer : ℕ → List ℕ → ℕ → Said
+valueAnswer at raw room = orRefused [] true (length (writtenOf raw)) room (says 0 (valueAt at raw))
+
+abbrev pub valueBuffer : List ℕ → List ℕ → List ℕ
+valueBuffer raw out = afterwards [] true (writtenOf raw) out
+
 -- the token's range and the value's place
 abbrev pub trailerAt : Trailer → List ℕ
 trailerAt t = placeOf t ∷ (placeOf t + length (tokenOf t)) ∷ valueAt (rawValueAt t) (rawValue t)

@@ -1,21 +1,34 @@
 // The calls on a body: trailers, blocks, attribution.
+ghost use mathlib.Core.Bool.{true};
+ghost use mathlib.Core.List.{[]};
 ghost use mathlib.Core.Path.{_≡_};
-ghost use Prim.Native.Nat.{_-_};
+ghost use Prim.Native.Nat.{_-_, _≤_};
 ghost use lib.ListN.{length, take, drop};
-ghost use Rattle.rules.specs.Answers.{blockStepSays, startSays, yesNoSays};
+ghost use Rattle.rules.specs.Answers.{afterwards, blockStepSays, startSays, trailerStepSays, valueFoundSays, yesNoSays};
+ghost use Rattle.rules.specs.Trailer.{unfolded};
 ghost use Rattle.rules.specs.declared.Kind.{Kind};
-ghost use Rattle.message.specs.Body.{blockAnswer, partOf, questionAnswer, startAnswer, viewOf};
+ghost use Rattle.message.specs.Body.{blockAnswer, partOf, questionAnswer, startAnswer, stepAnswer, stepBuffer, valueAnswer, valueBuffer, viewOf, writtenAnswer};
 use block::walk::NextBlock;
 use block::walk::next_block_from;
 use rules::BlockCursor;
 use rules::BlockStep;
+use rules::Cursor;
 use rules::Kind;
 use rules::LIMIT;
 use rules::Part;
 use rules::Refusal;
 use rules::StartFound;
+use rules::TrailerRef;
+use rules::TrailerStep;
 use rules::Value;
+use rules::ValueFound;
 use rules::YesNo;
+use text::white::trim;
+use trailer::value::is_folded;
+use trailer::value::unfold_into;
+use trailer::value::unfolded_len;
+use trailer::walk::NextTrailer;
+use walk::next_of;
 
 // The bytes of `s` from `start` up to `end`; none where the range does not fit.
 fn part_or_empty<'a>(s: &'a [u8], start: usize, end: usize) -> &'a [u8]
@@ -150,4 +163,82 @@ pub fn next_block(body: &[u8], cursor: BlockCursor) -> BlockStep
             start: end,
         },
     }
+}
+
+// The unfolded value of a raw value that has several lines: written to the front of `out`, where there is room.
+fn unfold_value(value: &[u8], out: &mut [u8]) -> ValueFound
+    ensures { λ r. ⌜ valueFoundSays r ≡ writtenAnswer (unfolded (now (value .entry))) (length (now (out .entry))) ⌝ }
+    ensures { λ _. ⌜ now (out .exit) ≡ afterwards [] true (unfolded (now (value .entry))) (now (out .entry)) ⌝ }
+{
+    let needed = unfolded_len(value);
+    if out.len() < needed {
+        return ValueFound::Refused(Refusal::NoRoom(needed));
+    }
+    unfold_into(value, out);
+    ValueFound::At(Value::InBuffer(Part {
+        start: 0,
+        end: needed,
+    }))
+}
+
+// The value of the raw value from `from` up to `to`: a part of the body, or, unfolded, the front of `out`.
+fn read_value(body: &[u8], from: usize, to: usize, out: &mut [u8]) -> ValueFound
+    requires { ⌜ (from ≤ to) × (to ≤ length (now body)) ⌝ }
+    ensures { λ r. ⌜ valueFoundSays r ≡ valueAnswer from (take (to - from) (drop from (now (body .entry)))) (length (now (out .entry))) ⌝ }
+    ensures { λ _. ⌜ now (out .exit) ≡ valueBuffer (take (to - from) (drop from (now (body .entry)))) (now (out .entry)) ⌝ }
+{
+    let raw = &body[from..to];
+    if is_folded(raw) {
+        return unfold_value(raw, out);
+    }
+    let part = trim(raw);
+    let start = from + part.start;
+    let end = from + part.end;
+    ValueFound::At(Value::InInput(Part { start, end }))
+}
+
+// The next trailer from the cursor on whose token is of the kind; the others are passed over, and write nothing.
+pub fn next_trailer_of(body: &[u8], cursor: Cursor, kind: Kind, out: &mut [u8]) -> TrailerStep
+    ensures { λ r. ⌜ trailerStepSays r ≡ stepAnswer kind (now (body .entry)) (cursor .at) (length (now (out .entry))) ⌝ }
+    ensures { λ _. ⌜ now (out .exit) ≡ stepBuffer kind (now (body .entry)) (cursor .at) (now (out .entry)) ⌝ }
+{
+    let at = cursor.at;
+    let len = body.len();
+    if len > LIMIT {
+        return TrailerStep::Refused(Refusal::TooLong);
+    }
+    if len < at {
+        return TrailerStep::Refused(Refusal::BadPlace);
+    }
+    let NextTrailer::Trailer {
+        start,
+        token_end,
+        separator,
+        end,
+    } = next_of(body, at, kind)
+    else {
+        return TrailerStep::End(Cursor { at: len });
+    };
+    let read = read_value(body, separator + 1, end, out);
+    match read {
+        ValueFound::At(value) => TrailerStep::Trailer {
+            found: TrailerRef {
+                token: Part {
+                    start,
+                    end: token_end,
+                },
+                value,
+            },
+            next: Cursor { at: end },
+        },
+        ValueFound::Refused(refusal) => TrailerStep::Refused(refusal),
+    }
+}
+
+// The next trailer from the cursor on.
+pub fn next_trailer(body: &[u8], cursor: Cursor, out: &mut [u8]) -> TrailerStep
+    ensures { λ r. ⌜ trailerStepSays r ≡ stepAnswer Kind.All (now (body .entry)) (cursor .at) (length (now (out .entry))) ⌝ }
+    ensures { λ _. ⌜ now (out .exit) ≡ stepBuffer Kind.All (now (body .entry)) (cursor .at) (now (out .entry)) ⌝ }
+{
+    next_trailer_of(body, cursor, Kind::All, out)
 }

@@ -48,7 +48,8 @@ blank-form c =
 blanks-white : (p : List ℕ) → T (all blankByte p) → White p
 blanks-white [] t = none
 blanks-white (c ∷ p) t =
-    more (c ∷ []) (blank-form c (and-left (blankByte c) (all blankByte p) t)) (blanks-white p (and-right (blankByte c) (all blankByte p) t))
+    let b : T (blankByte c) = and-left (blankByte c) (all blankByte p) t in
+    more (c ∷ []) (blank-form c b) (blanks-white p (and-right (blankByte c) (all blankByte p) t))
 
 -- a piece is what stays of it, and white space
 pub blanks-behind : (p : List ℕ) → (w : List ℕ) × White w × (p ≡ dropBlanks p ++ w)
@@ -61,5 +62,5 @@ blanks-behind (c ∷ p) = cut (all blankByte (c ∷ p)) refl (blanks-behind p)
     cut false e (w, v, q) = (w, v, cc)
 
 -- so what stays of it is at its front
-pub front-stays : (p : List ℕ) → take (length (dropBlanks p)) p ≡ dropBlanks p
-front-stays p = let (w, v, q) = blanks-behind p in ap (take (length (dropBlanks p))) q ∙ take-append-seam (dropBlanks p) w
+pub front-stays : (p : List ℕ) (n : ℕ) → n ≡ length (dropBlanks p) → take n p ≡ dropBlanks p
+front-stays p n e = let (w, v, q) = blanks-behind p in rw e (ap (take (length (dropBlanks p))) q ∙ take-append-seam (dropBlanks p) w)

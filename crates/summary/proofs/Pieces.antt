@@ -23,7 +23,8 @@ some-piece (c ∷ s) = let (p, ps, e) = some-piece s in rw e (at (eqb c LF) p ps
     at false p ps = (c ∷ p, ps, refl)
 
 -- the first piece runs up to the first LF, and the others come behind it; or there is no LF
-first-piece : (s : List ℕ) → length (run inner s) < length s → pieces s ≡ take (length (run inner s)) s ∷ pieces (drop (suc (length (run inner s))) s)
+first-piece : (s : List ℕ) → length (run inner s) < length s →
+    pieces s ≡ take (length (run inner s)) s ∷ pieces (drop (suc (length (run inner s))) s)
 first-piece [] h = absurd (omega arith)
 first-piece (c ∷ s) h = at (eqb c LF) h (first-piece s)
   where

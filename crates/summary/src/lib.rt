@@ -48,7 +48,8 @@ pub fn is_written(message: &[u8]) -> bool
     find_byte(message, 0, b'\n') < message.len()
 }
 
-// The length of the summary of a message that is trimmed.
+// The length of the summary of a message that is trimmed. The pieces before `at` have `len` bytes folded, of which `kept` stay
+// where the end is trimmed; the next piece is from `at` to `pos`.
 pub fn summary_len(message: &[u8]) -> usize
     ensures { λ r. ⌜ r ≡ length (spaced (pieces (now (message .entry)))) ⌝ }
 {

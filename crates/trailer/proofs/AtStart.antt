@@ -52,7 +52,9 @@ at-start-by (c ∷ s) n e =
     let ls : List Line = lines (drop n (c ∷ s)) in
     let cut : lines (c ∷ s) ≡ l ∷ ls = rw e (first-line (c ∷ s) (omega arith)) in
     let size : length l ≡ n = sym (e ∙ ap firstLength cut) in
-    rw (rest (c ∷ s) n, parsed-front (c ∷ s) l ls cut, cut) (rw size (either-way (trailerLine l) (length (tokenIn l)) (length (tokenIn l) + length (gapIn l)) (n + length (join (run folds ls)))))
+    let token : ℕ = length (tokenIn l) in
+    rw (rest (c ∷ s) n, parsed-front (c ∷ s) l ls cut, cut, size)
+    (either-way (trailerLine l) token (token + length (gapIn l)) (n + length (join (run folds ls))))
 
 pub no-trailer-there : (s : List ℕ) → parsed s ≡ TrailerLine.NoTrailer → atStart (lines s) ≡ TrailerAtStart.NoTrailer
 no-trailer-there s p = at-start-by s (firstLength (lines s)) refl ∙ rw p

@@ -20,6 +20,9 @@ module _ (s : List ℕ) (at n : ℕ) (h : at < length s) (e : n ≡ firstLength 
   pub line-within : at + n ≤ length s
   line-within = omega (arith, is-first, first-within (drop at s), length-drop at s)
 
+  pub line-ahead : (0 < n) × (at + n ≤ length s)
+  line-ahead = (line-some, line-within)
+
   -- the first line is `&s[at..at + n]`, and the lines behind it are those from its end on
   pub line-then : lines (drop at s) ≡ take (at + n - at) (drop at s) ∷ lines (drop (at + n) s)
   line-then =

@@ -1,4 +1,4 @@
--- Laws of trailer lines, for this crate and those who call it.
+-- Laws of trailer lines, of the walk's steps and of unfolding, for this crate and those who call it.
 pub mod Runs
 pub mod Parsed
 pub mod ByLines

@@ -91,7 +91,8 @@ same-to : (t z : List ℕ) → Same (t ++ LF ∷ z) t
 unfolding trailerLine named coloned tokenIn gapIn
 same-to t z =
     let behind : past tokenByte (t ++ LF ∷ z) ≡ past tokenByte t ++ LF ∷ z = past-to tokenByte token-to z t in (
-      rw (behind, first-to tokenByte token-to z t, past-to gapByte gap-to z (past tokenByte t), first-to (eqb colon) refl z (past gapByte (past tokenByte t))),
+      rw (behind, first-to tokenByte token-to z t, past-to gapByte gap-to z (past tokenByte t))
+          (rw (first-to (eqb colon) refl z (past gapByte (past tokenByte t)))),
       run-to tokenByte token-to z t,
       rw behind (run-to gapByte gap-to z (past tokenByte t)),
     )

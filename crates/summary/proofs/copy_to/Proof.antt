@@ -1,6 +1,6 @@
 -- `summary::copy_to` meets its contract. The invariant: the first `j` bytes are written. Assumes nothing.
 use mathlib.Core.List.{List}
-use mathlib.Core.Path.{_≡_, refl, sym, ap, _∙_}
+use mathlib.Core.Path.{_≡_, refl, sym, _∙_}
 use Prim.Native.Nat.{ℕ, _+_, _-_, _≤_, _<_}
 use native.Mathlib.Numerals.{add-one}
 use native.Mathlib.Omega.{arith}
@@ -38,8 +38,8 @@ returns : tie.Need-returns Inv-loop μ-loop
 returns c =
     let l = c .before .before in
     let a = l .before .args in
-    let e : l .loop .j ≡ a .end - a .at = omega arith in
-    (omega (arith, length-take-le (l .loop .j) (a .src .now) (omega arith), ap (λ (k : ℕ). length (take k (a .src .now))) e), rw (← e) (l .loop .inv .3))
+    let e : a .end - a .at ≡ l .loop .j = omega arith in
+    (rw e (omega (arith, length-take-le (l .loop .j) (a .src .now) (omega arith))), rw e (l .loop .inv .3))
 
 shared-slice-read-out : tie.Need-shared-slice-read-out Inv-loop μ-loop
 shared-slice-read-out c = search needs

@@ -18,7 +18,8 @@ use Rattle.summary.proofs.fold_to.Tie as tie
 full : (k : ℕ) (p : List ℕ) → length (take k (dropBlanks p)) ≡ k → take k (folded p) ≡ take k (dropBlanks p)
 full k p e = take-append-le k (dropBlanks p) (space ∷ []) (fills k (dropBlanks p) e)
 
-whole : (k : ℕ) (p : List ℕ) → (length (take k (dropBlanks p)) ≡ k → ⊥) → (take k (folded p) ≡ folded p) × (take k (dropBlanks p) ≡ dropBlanks p)
+whole : (k : ℕ) (p : List ℕ) → (length (take k (dropBlanks p)) ≡ k → ⊥) →
+    (take k (folded p) ≡ folded p) × (take k (dropBlanks p) ≡ dropBlanks p)
 whole k p n =
     let (h, e) = shorter k (dropBlanks p) n in
     (take-all k (folded p) (omega (arith, length-append (dropBlanks p) (space ∷ []))), e)
@@ -39,40 +40,43 @@ same-length c = search needs
 
 returns : tie.Need-returns
 returns c =
+    let blanks = c .before .before .before .before .before .before .trim-blanks in
+    let copied = c .before .before .before .copy-to in
     let a = c .before .before .before .before .before .before .before .before .before .args in
     let p = a .piece .now in
-    let k : ℕ = a .end - a .at in
-    let front : take (c .before .before .before .before .before .before .trim-blanks .result) p ≡ dropBlanks p = rw (c .before .before .before .before .before .before .trim-blanks .ensures) (front-stays p) in
-    let got = rw front at (c .before .before .before .copy-to .ensures) in
-    let f : take k (folded p) ≡ take k (dropBlanks p) = full k p (omega arith) in
+    let front : take (blanks .result) p ≡ dropBlanks p = front-stays p (blanks .result) (blanks .ensures) in
+    let got = rw front at (copied .ensures) in
+    let f : take (a .end - a .at) (folded p) ≡ take (a .end - a .at) (dropBlanks p) = full (a .end - a .at) p (omega arith) in
     (rw f (omega arith), rw f (got .1))
 
 slice-write-out : tie.Need-slice-write-out
 slice-write-out c =
+    let blanks = c .before .before .before .before .before .before .trim-blanks in
     let a = c .before .before .before .before .before .before .before .before .before .args in
-    omega (arith, length-take-room (a .end - a .at) (take (c .before .before .before .before .before .before .trim-blanks .result) (a .piece .now)))
+    omega (arith, length-take-room (a .end - a .at) (take (blanks .result) (a .piece .now)))
 
 add-result : tie.Need-add-result
 add-result c =
+    let blanks = c .before .before .before .before .before .before .trim-blanks in
     let a = c .before .before .before .before .before .before .before .before .before .args in
-    omega (arith, length-take-room (a .end - a .at) (take (c .before .before .before .before .before .before .trim-blanks .result) (a .piece .now)))
+    omega (arith, length-take-room (a .end - a .at) (take (blanks .result) (a .piece .now)))
 
 same-length-2 : tie.Need-same-length-2
 same-length-2 c = search needs
 
 returns-2 : tie.Need-returns-2
 returns-2 c =
+    let blanks = c .before .before .before .before .before .before .trim-blanks in
+    let copied = c .before .before .before .copy-to in
     let a = c .before .before .before .before .before .before .before .before .before .args in
     let p = a .piece .now in
-    let n = c .before .before .before .before .before .before .trim-blanks .result in
     let k : ℕ = a .end - a .at in
-    let front : take n p ≡ dropBlanks p = rw (c .before .before .before .before .before .before .trim-blanks .ensures) (front-stays p) in
-    let (f, d) = whole k p (λ e. c .if1 .left (omega (arith, rw front at (c .before .before .before .copy-to .ensures .0)))) in
-    let got = rw (front, d) at (c .before .before .before .copy-to .ensures) in
-    let i = c .before .before .before .copy-to .result in
-    let l : i + 1 ≡ a .at + length (folded p) = omega (arith, got .0, length-append (dropBlanks p) (space ∷ [])) in
-    let h : i < length (a .out .now) = omega (arith, length-take-room k (take n p)) in
-    (rw f l, rw (got .1, f) (put-byte (a .out .now) (dropBlanks p) (a .at) i space (got .0) h))
+    let front : take (blanks .result) p ≡ dropBlanks p = front-stays p (blanks .result) (blanks .ensures) in
+    let (f, d) = whole k p (λ e. c .if1 .left (omega (arith, rw front at (copied .ensures .0)))) in
+    let got = rw (front, d) at (copied .ensures) in
+    let l : copied .result + 1 ≡ a .at + length (folded p) = omega (arith, got .0, length-append (dropBlanks p) (space ∷ [])) in
+    let h : copied .result < length (a .out .now) = omega (arith, length-take-room k (take (blanks .result) p)) in
+    (rw f l, rw (got .1, f) (put-byte (a .out .now) (dropBlanks p) (a .at) (copied .result) space (got .0) h))
 
 pub fold-to-spec : {M : Type 1} → statement M
 fold-to-spec =

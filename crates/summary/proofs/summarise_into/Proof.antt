@@ -24,7 +24,8 @@ abbrev left : List ℕ → ℕ → ℕ → List ℕ
 left s at k = take k (total (pieces (drop at s)))
 
 -- while some are left, the piece from `at` to an LF at `pos` is not empty, and then some of its bytes and of those behind it are left
-module _ (s : List ℕ) (at pos k : ℕ) (e : pos ≡ at + length (run inner (drop at s))) (h : pos < length s) (f : length (left s at k) ≡ k) where
+module _ (s : List ℕ) (at pos k : ℕ) (e : pos ≡ at + length (run inner (drop at s))) (h : pos < length s)
+    (f : length (left s at k) ≡ k) where
   total-at : 0 < k → total (pieces (drop at s)) ≡ folded (piece s at pos) ++ total (pieces (drop (pos + 1) s))
   total-at z = by (piece s at pos) refl
     where
@@ -141,8 +142,9 @@ returns-2 : tie.Need-returns-2 Inv-loop μ-loop
 returns-2 c =
     let l = c .before .before .before .before .before .before in
     let a = l .before .before .before .before .args in
-    let o = over (a .message .now) (l .loop .at) (l .loop .pos) (a .n - l .loop .len) (l .loop .inv .0) (c .before .before .before .before .before .loop-test .left) in
-    c .before .before .copy-to .ensures .1 ∙ rw o (l .loop .inv .5)
+    let k : ℕ = a .n - l .loop .len in
+    let h = c .before .before .before .before .before .loop-test .left in
+    rw (c .before .before .copy-to .ensures .1, over (a .message .now) (l .loop .at) (l .loop .pos) k (l .loop .inv .0) h) (l .loop .inv .5)
 
 pub summarise-into-spec : {M : Type 1} → statement M
 summarise-into-spec =

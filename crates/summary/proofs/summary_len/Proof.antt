@@ -66,7 +66,7 @@ returns c =
     let l = c .before .before in
     let s = l .before .before .before .args .message .now in
     let i = l .loop .inv in
-    sym (stop s (l .loop .at) (l .loop .pos) (i .0) (c .before .loop-test .taken) (l .loop .len) (l .loop .kept) (c .if1 .taken))
+    sym (stop s (l .loop .at) (l .loop .pos) (i .0) (c .before .loop-test .taken) (l .loop .len) (l .loop .kept) (omega arith))
     ∙ i .4
     ∙ sized-spaced (pieces s)
 
@@ -86,7 +86,8 @@ add-kept : tie.Need-add-kept Inv-loop μ-loop
 add-kept c =
     let i = c .before .before .before .before in
     let l = i .before in
-    omega (arith, trimmed-within (l .before .before .before .args .message .now) (l .loop .at) (l .loop .pos) (l .loop .inv .0) (i .loop-test .taken))
+    let s = l .before .before .before .args .message .now in
+    omega (arith, trimmed-within s (l .loop .at) (l .loop .pos) (l .loop .inv .0) (i .loop-test .taken))
 
 trim-blanks-requires : tie.Need-trim-blanks-requires Inv-loop μ-loop
 trim-blanks-requires c κs = search needs
@@ -95,13 +96,15 @@ add-len : tie.Need-add-len Inv-loop μ-loop
 add-len c =
     let i = c .before .before .before .before .before in
     let l = i .before in
-    omega (arith, blanks-within (l .before .before .before .args .message .now) (l .loop .at) (l .loop .pos) (l .loop .inv .0) (i .loop-test .taken))
+    let s = l .before .before .before .args .message .now in
+    omega (arith, blanks-within s (l .loop .at) (l .loop .pos) (l .loop .inv .0) (i .loop-test .taken))
 
 add-len-2 : tie.Need-add-len-2 Inv-loop μ-loop
 add-len-2 c =
     let i = c .before .before .before .before .before in
     let l = i .before in
-    omega (arith, blanks-within (l .before .before .before .args .message .now) (l .loop .at) (l .loop .pos) (l .loop .inv .0) (i .loop-test .taken))
+    let s = l .before .before .before .args .message .now in
+    omega (arith, blanks-within s (l .loop .at) (l .loop .pos) (l .loop .inv .0) (i .loop-test .taken))
 
 add-at : tie.Need-add-at Inv-loop μ-loop
 add-at c = search needs
@@ -123,20 +126,21 @@ loop-again c =
     let kept = l .loop .kept in
     let e = l .loop .inv .0 in
     let h = i .loop-test .taken in
-    let n = c .before .before .before .trim-end .result in
+    let blanks = c .before .trim-blanks in
+    let trimmed = c .before .before .before .trim-end in
+    let n = trimmed .result in
     let k : c .before .before .if2 .kept ≡ keep len kept n =
     ⊎-elim
     (λ w. w .1 ∙ sym (keep-some len kept n (w .0 .taken)))
     (λ w. w .1 ∙ sym (keep-none len kept n (w .0 .left)))
     (c .before .before .if2 .came) in
+    let z : pos ≡ at → ⊥ = λ o. omega arith in
     let m : keep len kept n ≤ pos = keep-le len kept n pos (omega arith) (omega (arith, trimmed-within s at pos e h)) in (
       search needs,
       search needs,
       omega (arith, blanks-within s at pos e h),
       omega arith,
-      turn s at pos e h len kept (c .before .trim-blanks .result) n (c .before .before .if2 .kept)
-          (c .before .before .before .before .before .if1 .left) (c .before .trim-blanks .ensures) (c .before .before .before .trim-end .ensures) k
-          ∙ l .loop .inv .4,
+      turn s at pos e h len kept (blanks .result) n (c .before .before .if2 .kept) z (blanks .ensures) (trimmed .ensures) k ∙ l .loop .inv .4,
     )
 
 sub-result : tie.Need-sub-result Inv-loop μ-loop
@@ -145,14 +149,17 @@ sub-result c = search needs
 add-result : tie.Need-add-result Inv-loop μ-loop
 add-result c =
     let l = c .before in
-    omega (arith, found-within (l .before .before .before .args .message .now) (l .loop .at) (l .loop .pos) (l .loop .inv .0) (l .loop .inv .1))
+    let s = l .before .before .before .args .message .now in
+    omega (arith, found-within s (l .loop .at) (l .loop .pos) (l .loop .inv .0) (l .loop .inv .1))
 
 returns-2 : tie.Need-returns-2 Inv-loop μ-loop
 returns-2 c =
     let l = c .before in
     let s = l .before .before .before .args .message .now in
     let i = l .loop .inv in
-    sym (over s (l .loop .at) (l .loop .pos) (l .loop .len) (l .loop .kept) (i .0) (i .1) (c .loop-test .left)) ∙ i .4 ∙ sized-spaced (pieces s)
+    sym (over s (l .loop .at) (l .loop .pos) (l .loop .len) (l .loop .kept) (i .0) (i .1) (c .loop-test .left))
+    ∙ i .4
+    ∙ sized-spaced (pieces s)
 
 pub summary-len-spec : {M : Type 1} → statement M
 summary-len-spec =

@@ -11,7 +11,7 @@ use lib.ListN.{length, take, drop, drop-of-length-le, length-append}
 use Rattle.rules.specs.Lines.{Line, folds, lines}
 use Rattle.rules.specs.Lists.{if_then_else_, join, run}
 use Rattle.text.specs.Lines.{firstLength}
-use Rattle.trailer.proofs.ByLines.{line-some, line-within, line-then, line-length}
+use Rattle.trailer.proofs.ByLines.{line-ahead, line-then, line-length}
 use Rattle.trailer.proofs.line.folds_len.Statement.{statement}
 use Rattle.trailer.proofs.line.folds_len.Tie as tie
 
@@ -49,10 +49,15 @@ part-line-len-end c = search needs
 line-len-requires : tie.Need-line-len-requires Inv-loop μ-loop
 line-len-requires c κs = search needs
 
-add-end : tie.Need-add-end Inv-loop μ-loop
-add-end c =
+-- a line is ahead
+ahead : (c : tie.After-line-len Inv-loop μ-loop) → let l = c .before .before .before in
+    (0 < c .line-len .result) × (l .loop .len + c .line-len .result ≤ length (l .before .before .args .rest .now))
+ahead c =
     let l = c .before .before .before in
-    omega (arith, line-within (l .before .before .args .rest .now) (l .loop .len) _ (omega arith) (c .line-len .ensures))
+    line-ahead (l .before .before .args .rest .now) (l .loop .len) (c .line-len .result) (omega arith) (c .line-len .ensures)
+
+add-end : tie.Need-add-end Inv-loop μ-loop
+add-end c = omega (arith, ahead c)
 
 sub-is-fold : tie.Need-sub-is-fold Inv-loop μ-loop
 sub-is-fold c = search needs
@@ -61,9 +66,7 @@ part-is-fold-start : tie.Need-part-is-fold-start Inv-loop μ-loop
 part-is-fold-start c = search needs
 
 part-is-fold-end : tie.Need-part-is-fold-end Inv-loop μ-loop
-part-is-fold-end c =
-    let l = c .before .before .before in
-    omega (arith, line-within (l .before .before .args .rest .now) (l .loop .len) _ (omega arith) (c .line-len .ensures))
+part-is-fold-end c = omega (arith, ahead c)
 
 is-fold-requires : tie.Need-is-fold-requires Inv-loop μ-loop
 is-fold-requires c κs = search needs
@@ -76,11 +79,7 @@ returns c =
     omega (arith, folds-step (l .before .before .args .rest .now) (l .loop .len) (n .result) false (omega arith) (n .ensures) q)
 
 loop-less : tie.Need-loop-less Inv-loop μ-loop
-loop-less c =
-    let l = c .before .before .before .before .before .before in
-    let n = c .before .before .before .line-len in
-    let s = l .before .before .args .rest .now in
-    omega (arith, line-some s (l .loop .len) _ (omega arith) (n .ensures), line-within s (l .loop .len) _ (omega arith) (n .ensures))
+loop-less c = omega (arith, ahead (c .before .before .before))
 
 loop-again : tie.Need-loop-again Inv-loop μ-loop
 loop-again c =
@@ -88,7 +87,7 @@ loop-again c =
     let n = c .before .before .before .line-len in
     let s = l .before .before .args .rest .now in
     let q = sym (not-false _ (c .if1 .left)) ∙ c .before .is-fold .ensures in (
-      line-within s (l .loop .len) (n .result) (omega arith) (n .ensures),
+      ahead (c .before .before .before) .1,
       omega (arith, folds-step s (l .loop .len) (n .result) true (omega arith) (n .ensures) q),
     )
 

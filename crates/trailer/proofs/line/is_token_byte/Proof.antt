@@ -1,7 +1,8 @@
 -- `trailer::line::is_token_byte` meets its contract. Assumes nothing.
-use mathlib.Core.Path.{sym, _∙_}
+use mathlib.Core.Bool.{false, _||_}
+use mathlib.Core.Path.{_≡_, sym, _∙_}
 use borrow.Author.Needs.{needs}
-use Rattle.rules.specs.Bytes.{tokenByte}
+use Rattle.rules.specs.Bytes.{tokenByte, within}
 use Rattle.trailer.proofs.line.is_token_byte.Statement.{statement}
 use Rattle.trailer.proofs.line.is_token_byte.Tie as tie
 
@@ -24,27 +25,18 @@ returns-2 c =
 is-within-requires-3 : tie.Need-is-within-requires-3
 is-within-requires-3 c κs = search needs
 
+no-letter : (c : tie.Else2) → let byte = c .before .before .before .before .args .byte in within 65 90 byte || within 97 122 byte ≡ false
+no-letter c =
+    let first = c .before .before in
+    rw (sym (first .before .is-within .ensures) ∙ first .if1 .left, sym (c .before .is-within2 .ensures) ∙ c .if2 .left)
+
 returns-3 : tie.Need-returns-3
 unfolding tokenByte
-returns-3 c =
-    let second = c .before .before in
-    let first = second .before .before in
-    rw (
-      sym (first .before .is-within .ensures) ∙ first .if1 .left,
-      sym (second .before .is-within2 .ensures) ∙ second .if2 .left,
-      sym (c .before .is-within3 .ensures) ∙ c .if3 .taken,
-    )
+returns-3 c = rw (no-letter (c .before .before), sym (c .before .is-within3 .ensures) ∙ c .if3 .taken)
 
 returns-4 : tie.Need-returns-4
 unfolding tokenByte
-returns-4 c =
-    let second = c .before .before in
-    let first = second .before .before in
-    rw (
-      sym (first .before .is-within .ensures) ∙ first .if1 .left,
-      sym (second .before .is-within2 .ensures) ∙ second .if2 .left,
-      sym (c .before .is-within3 .ensures) ∙ c .if3 .left,
-    )
+returns-4 c = rw (no-letter (c .before .before), sym (c .before .is-within3 .ensures) ∙ c .if3 .left)
 
 pub is-token-byte-spec : {M : Type 1} → statement M
 is-token-byte-spec =

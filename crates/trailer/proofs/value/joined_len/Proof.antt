@@ -2,20 +2,19 @@
 use mathlib.Core.Path.{_≡_, sym}
 use Prim.Native.Nat.{_+_}
 use native.Mathlib.Omega.{arith}
-use borrow.Author.Tests.{eq-eqb, ne-eqb}
 use Rattle.trailer.specs.Value.{joinedLength}
+use Rattle.trailer.proofs.Joined.{length-none, length-first, length-both}
 use Rattle.trailer.proofs.value.joined_len.Statement.{statement}
 use Rattle.trailer.proofs.value.joined_len.Tie as tie
 
 returns : tie.Need-returns
-returns c = rw (eq-eqb _ _ (c .if1 .taken))
+returns c = sym (length-none _ _ (c .if1 .taken))
 
 returns-2 : tie.Need-returns-2
-returns-2 c = rw (ne-eqb _ _ (c .before .if1 .left), eq-eqb _ _ (c .if2 .taken))
+returns-2 c = sym (length-first _ _ (c .if2 .taken) (c .before .if1 .left))
 
--- neither is empty
 both : (c : tie.Else2) → let a = c .before .before .args in joinedLength (a .len) (a .more) ≡ a .len + 1 + a .more
-both c = rw (ne-eqb _ _ (c .before .if1 .left), ne-eqb _ _ (c .if2 .left))
+both c = length-both _ _ (c .if2 .left) (c .before .if1 .left)
 
 add-result : tie.Need-add-result
 add-result c = omega (arith, both c)

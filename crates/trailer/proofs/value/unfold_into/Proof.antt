@@ -1,10 +1,10 @@
 -- `trailer::value::unfold_into` meets its contract. The invariant: the front of `out` holds what the lines before `at` make.
 -- Assumes nothing.
-use Prim.Native.Nat.{_-_, _≤_}
+use Prim.Native.Nat.{_+_, _-_, _≤_, _<_}
 use native.Mathlib.Omega.{arith}
 use borrow.Author.Needs.{needs}
 use lib.ListN.{length}
-use Rattle.trailer.proofs.ByLines.{line-some, line-within}
+use Rattle.trailer.proofs.ByLines.{line-ahead}
 use Rattle.trailer.proofs.Written.{Written, written-start, written-step, written-end, next-fits}
 use Rattle.trailer.proofs.value.unfold_into.Statement.{statement}
 use Rattle.trailer.proofs.value.unfold_into.Tie as tie
@@ -30,10 +30,15 @@ part-line-len-end c = search needs
 line-len-requires : tie.Need-line-len-requires Inv-loop μ-loop
 line-len-requires c κs = search needs
 
-add-end : tie.Need-add-end Inv-loop μ-loop
-add-end c =
+-- a line is ahead
+ahead : (c : tie.After-line-len Inv-loop μ-loop) → let l = c .before .before .before in
+    (0 < c .line-len .result) × (l .loop .at + c .line-len .result ≤ length (l .before .before .before .args .value .now))
+ahead c =
     let l = c .before .before .before in
-    omega (arith, line-within (l .before .before .before .args .value .now) (l .loop .at) _ (omega arith) (c .line-len .ensures))
+    line-ahead (l .before .before .before .args .value .now) (l .loop .at) (c .line-len .result) (omega arith) (c .line-len .ensures)
+
+add-end : tie.Need-add-end Inv-loop μ-loop
+add-end c = omega (arith, ahead c)
 
 sub-trim-line : tie.Need-sub-trim-line Inv-loop μ-loop
 sub-trim-line c = search needs
@@ -42,9 +47,7 @@ part-trim-line-start : tie.Need-part-trim-line-start Inv-loop μ-loop
 part-trim-line-start c = search needs
 
 part-trim-line-end : tie.Need-part-trim-line-end Inv-loop μ-loop
-part-trim-line-end c =
-    let l = c .before .before .before in
-    omega (arith, line-within (l .before .before .before .args .value .now) (l .loop .at) _ (omega arith) (c .line-len .ensures))
+part-trim-line-end c = omega (arith, ahead c)
 
 trim-line-requires : tie.Need-trim-line-requires Inv-loop μ-loop
 trim-line-requires c κs = search needs
@@ -58,20 +61,17 @@ push-line-requires c κs =
     )
 
 loop-less : tie.Need-loop-less Inv-loop μ-loop
-loop-less c =
-    let l = c .before .before .before .before .before .before .before .before .before in
-    let n = c .before .before .before .before .before .before .line-len in
-    let s = l .before .before .before .args .value .now in
-    omega (arith, line-some s (l .loop .at) _ (omega arith) (n .ensures), line-within s (l .loop .at) _ (omega arith) (n .ensures))
+loop-less c = omega (arith, ahead (c .before .before .before .before .before .before))
 
 loop-again : tie.Need-loop-again Inv-loop μ-loop
 loop-again c =
     let l = c .before .before .before .before .before .before .before .before .before in
     let n = c .before .before .before .before .before .before .line-len in
     let kept = c .before .before .before .before .trim-line in
-    let pushed = c .before .before .push-line .ensures in (
-      line-within (l .before .before .before .args .value .now) (l .loop .at) (n .result) (omega arith) (n .ensures),
-      written-step (l .loop .inv .1) (n .result) (omega arith) (n .ensures) (kept .ensures) (l .before .before .before .pre) _ _ (pushed .0) (pushed .1),
+    let (end, content) = c .before .before .push-line .ensures in
+    let room = l .before .before .before .pre in (
+      ahead (c .before .before .before .before .before .before) .1,
+      written-step (l .loop .inv .1) (n .result) (omega arith) (n .ensures) (kept .ensures) room _ _ end content,
     )
 
 same-length : tie.Need-same-length Inv-loop μ-loop

@@ -2,13 +2,13 @@
 -- Assumes nothing.
 use mathlib.Core.List.{List, []}
 use mathlib.Core.Path.{_≡_, refl, sym, ap, _∙_}
-use Prim.Native.Nat.{ℕ, _+_, _-_, _≤_}
+use Prim.Native.Nat.{ℕ, _+_, _-_, _≤_, _<_}
 use native.Mathlib.Omega.{arith}
 use borrow.Author.Needs.{needs}
 use lib.ListN.{length}
 use Rattle.rules.proofs.Unfolded.{unfolded-short}
 use Rattle.trailer.specs.Value.{joinedLength}
-use Rattle.trailer.proofs.ByLines.{line-some, line-within}
+use Rattle.trailer.proofs.ByLines.{line-ahead}
 use Rattle.trailer.proofs.Joined.{joined, length-joined}
 use Rattle.trailer.proofs.Unfolding.{Half, half-start, half-within, half-step, half-end}
 use Rattle.trailer.proofs.value.unfolded_len.Statement.{statement}
@@ -35,10 +35,15 @@ part-line-len-end c = search needs
 line-len-requires : tie.Need-line-len-requires Inv-loop μ-loop
 line-len-requires c κs = search needs
 
-add-end : tie.Need-add-end Inv-loop μ-loop
-add-end c =
+-- a line is ahead
+ahead : (c : tie.After-line-len Inv-loop μ-loop) → let l = c .before .before .before in
+    (0 < c .line-len .result) × (l .loop .at + c .line-len .result ≤ length (l .before .before .args .value .now))
+ahead c =
     let l = c .before .before .before in
-    omega (arith, line-within (l .before .before .args .value .now) (l .loop .at) _ (omega arith) (c .line-len .ensures))
+    line-ahead (l .before .before .args .value .now) (l .loop .at) (c .line-len .result) (omega arith) (c .line-len .ensures)
+
+add-end : tie.Need-add-end Inv-loop μ-loop
+add-end c = omega (arith, ahead c)
 
 sub-trim-line : tie.Need-sub-trim-line Inv-loop μ-loop
 sub-trim-line c = search needs
@@ -47,9 +52,7 @@ part-trim-line-start : tie.Need-part-trim-line-start Inv-loop μ-loop
 part-trim-line-start c = search needs
 
 part-trim-line-end : tie.Need-part-trim-line-end Inv-loop μ-loop
-part-trim-line-end c =
-    let l = c .before .before .before in
-    omega (arith, line-within (l .before .before .args .value .now) (l .loop .at) _ (omega arith) (c .line-len .ensures))
+part-trim-line-end c = omega (arith, ahead c)
 
 trim-line-requires : tie.Need-trim-line-requires Inv-loop μ-loop
 trim-line-requires c κs = search needs
@@ -75,18 +78,14 @@ joined-len-requires c κs =
     omega (arith, len, half-within half, unfolded-short s)
 
 loop-less : tie.Need-loop-less Inv-loop μ-loop
-loop-less c =
-    let l = c .before .before .before .before .before .before in
-    let n = c .before .before .before .line-len in
-    let s = l .before .before .args .value .now in
-    omega (arith, line-some s (l .loop .at) _ (omega arith) (n .ensures), line-within s (l .loop .at) _ (omega arith) (n .ensures))
+loop-less c = omega (arith, ahead (c .before .before .before))
 
 loop-again : tie.Need-loop-again Inv-loop μ-loop
 loop-again c =
     let l = c .before .before .before .before .before .before in
     let n = c .before .before .before .line-len in
     let (done, len, half) = with-line (c .before) in
-    (line-within (l .before .before .args .value .now) (l .loop .at) _ (omega arith) (n .ensures), (done, len ∙ sym (c .joined-len .ensures), half))
+    (ahead (c .before .before .before) .1, (done, len ∙ sym (c .joined-len .ensures), half))
 
 returns : tie.Need-returns Inv-loop μ-loop
 returns c =

@@ -1,7 +1,7 @@
 -- `trailer::walk::next_trailer_from` meets its contract. The invariant: the first trailer from `start` on is the first from `at` on.
 -- Assumes nothing.
 use mathlib.Core.Path.{_≡_, sym, _∙_}
-use Prim.Native.Nat.{_-_, _≤_}
+use Prim.Native.Nat.{_+_, _-_, _≤_, _<_}
 use native.Mathlib.Omega.{arith}
 use borrow.Author.Needs.{needs}
 use lib.ListN.{length, take, drop}
@@ -10,7 +10,7 @@ use Rattle.rules.specs.Trailer.{walkFrom}
 use Rattle.trailer.specs.Line.{atStart}
 use Rattle.trailer.specs.Walk.{nextOf}
 use Rattle.trailer.specs.declared.line.TrailerAtStart.{TrailerAtStart}
-use Rattle.trailer.proofs.ByLines.{line-some, line-within}
+use Rattle.trailer.proofs.ByLines.{line-ahead}
 use Rattle.trailer.proofs.Steps.{next-skips, next-found, found-within, next-ends}
 use Rattle.trailer.proofs.walk.next_trailer_from.Statement.{statement}
 use Rattle.trailer.proofs.walk.next_trailer_from.Tie as tie
@@ -46,20 +46,21 @@ found : (c : tie.After-known-told Inv-loop μ-loop) → let l = c .before .befor
     ≡ TrailerAtStart.Trailer (c .before .token-end .given .0 .0) (c .before .token-end .given .0 .1 .0) (c .before .token-end .given .0 .1 .1 .0)
 found c = sym (c .before .before .before .trailer-at-start .ensures) ∙ c .before .token-end .given .1
 
-add-t13 : tie.Need-add-t13 Inv-loop μ-loop
-add-t13 c =
+places : (c : tie.After-known-told Inv-loop μ-loop) → let l = c .before .before .before .before .before .before in
+    let t = c .before .token-end .given .0 in
+    (t .0 ≤ t .1 .0) × (t .1 .0 < t .1 .1 .0) × (l .loop .start + t .1 .1 .0 ≤ length (l .before .before .args .body .now))
+places c =
     let l = c .before .before .before .before .before .before in
-    omega (arith, found-within (l .before .before .args .body .now) (l .loop .start) (omega arith) (found c))
+    found-within (l .before .before .args .body .now) (l .loop .start) (omega arith) (found c)
+
+add-t13 : tie.Need-add-t13 Inv-loop μ-loop
+add-t13 c = omega (arith, places c)
 
 add-t14 : tie.Need-add-t14 Inv-loop μ-loop
-add-t14 c =
-    let l = c .before .before .before .before .before .before in
-    omega (arith, found-within (l .before .before .args .body .now) (l .loop .start) (omega arith) (found c))
+add-t14 c = omega (arith, places c)
 
 add-t15 : tie.Need-add-t15 Inv-loop μ-loop
-add-t15 c =
-    let l = c .before .before .before .before .before .before in
-    omega (arith, found-within (l .before .before .args .body .now) (l .loop .start) (omega arith) (found c))
+add-t15 c = omega (arith, places c)
 
 returns : tie.Need-returns Inv-loop μ-loop
 returns c =
@@ -81,17 +82,18 @@ part-line-len-end c = search needs
 line-len-requires : tie.Need-line-len-requires Inv-loop μ-loop
 line-len-requires c κs = search needs
 
-add-start : tie.Need-add-start Inv-loop μ-loop
-add-start c =
+-- a line is ahead
+ahead : (c : tie.After-line-len Inv-loop μ-loop) → let l = c .before .before .before .before .before .before .before in
+    (0 < c .line-len .result) × (l .loop .start + c .line-len .result ≤ length (l .before .before .args .body .now))
+ahead c =
     let l = c .before .before .before .before .before .before .before in
-    omega (arith, line-within (l .before .before .args .body .now) (l .loop .start) _ (omega arith) (c .line-len .ensures))
+    line-ahead (l .before .before .args .body .now) (l .loop .start) (c .line-len .result) (omega arith) (c .line-len .ensures)
+
+add-start : tie.Need-add-start Inv-loop μ-loop
+add-start c = omega (arith, ahead c)
 
 loop-less : tie.Need-loop-less Inv-loop μ-loop
-loop-less c =
-    let l = c .before .before .before .before .before .before .before in
-    let s = l .before .before .args .body .now in
-    let e = c .line-len .ensures in
-    omega (arith, line-some s (l .loop .start) _ (omega arith) e, line-within s (l .loop .start) _ (omega arith) e)
+loop-less c = omega (arith, ahead c)
 
 loop-again : tie.Need-loop-again Inv-loop μ-loop
 loop-again c =
@@ -99,7 +101,7 @@ loop-again c =
     let s = l .before .before .args .body .now in
     let e = c .line-len .ensures in
     let none = sym (c .before .before .before .before .trailer-at-start .ensures) ∙ c .before .before .enum-told .given .1 in (
-      line-within s (l .loop .start) _ (omega arith) e,
+      ahead c .1,
       l .loop .inv .1 ∙ next-skips s (l .loop .start) (omega arith) _ none e,
     )
 
