@@ -1,0 +1,25 @@
+// Lists the entries of the journal: for each file that an argument names, its name and what the lister prints of it.
+use libc::STDOUT_FILENO;
+
+fn main() {
+    let count = os::arg_count();
+    for i in 1..count {
+        list_entry(i);
+    }
+}
+
+// Lists the entry in the file that argument `i` names, or says why it cannot be opened.
+fn list_entry(i: usize) {
+    let mut name = io::buffer();
+    let len = os::arg(i, &mut name);
+    let fd = os::open_read(&name[..len]);
+    if fd < 0 {
+        os::fail(&name[..len]);
+        return;
+    }
+    io::write_all(STDOUT_FILENO, b"== ");
+    io::write_all(STDOUT_FILENO, &name[..len]);
+    io::write_all(STDOUT_FILENO, b"\n");
+    listing::list(fd);
+    libc::close(fd);
+}
