@@ -28,3 +28,15 @@ fn step_from(body: &[u8], at: usize, out: &mut [u8]) -> Stepped
         TrailerStep::Refused(_) => Stepped { step, at },
     }
 }
+
+// The next trailer from the cursor on; the cursor is moved on in place, and stays where the step is refused.
+pub fn next_trailer_in_place(cursor: &mut Cursor, body: &[u8], out: &mut [u8]) -> TrailerStep
+    ensures { λ r. ⌜ trailerStepSays r ≡ stepAnswer Kind.All (now (body .entry)) (now (cursor .entry) .at) (length (now (out .entry))) ⌝ }
+    ensures { λ _. ⌜ now (cursor .exit) .at ≡ cursorLeft (now (body .entry)) (now (cursor .entry) .at) (length (now (out .entry))) ⌝ }
+    ensures { λ _. ⌜ now (out .exit) ≡ stepBuffer Kind.All (now (body .entry)) (now (cursor .entry) .at) (now (out .entry)) ⌝ }
+{
+    let at = cursor.at;
+    let stepped = step_from(body, at, out);
+    cursor.at = stepped.at;
+    stepped.step
+}
