@@ -1,0 +1,2 @@
+-- The statement of the step that moves a lent cursor.
+pub mod InPlace
