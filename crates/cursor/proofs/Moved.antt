@@ -5,10 +5,10 @@ use mathlib.Core.List.{List, [], _∷_, _++_}
 use mathlib.Core.Path.{_≡_, refl, sym, ap, _∙_}
 use Prim.Native.Nat.{ℕ}
 use native.Mathlib.Omega.{arith}
-use lib.Dec.{leb, ltb}
+use lib.Dec.{ltb}
 use lib.ListN.{length}
 use Rattle.message.specs.Body.{firstSays, firstWrites, stepAnswer, trailerAt}
-use Rattle.rules.specs.Answers.{Said, says, limit, overLimit, placeFits, refused}
+use Rattle.rules.specs.Answers.{Said, says, overLimit, placeFits, refused}
 use Rattle.rules.specs.Lists.{if_then_else_, any}
 use Rattle.rules.specs.Trailer.{Trailer, endOf, only, walkFrom}
 use Rattle.rules.specs.declared.Kind.{Kind}
@@ -27,11 +27,7 @@ last-value : (n : ℕ) (vs : List ℕ) (m : ℕ) → lastOr n (vs ++ (m ∷ []))
 last-value n [] m = refl
 last-value n (v ∷ vs) m = last-value v vs m
 
--- where nothing is refused the last value is the next cursor
-next-said : (body : List ℕ) (ts : List Trailer) → lastSaid (firstSays body ts) ≡ cursorAfter body ts
-next-said body [] = refl
-next-said body (t ∷ ts) = last-value 0 (trailerAt t) (endOf t)
-
+-- an answer that is no refusal has the next cursor for its last value
 by-answer : (long unfit short : Bool) (n at : ℕ) (body : List ℕ) (ts : List Trailer) (vs : List ℕ) →
     let answer = if long then says 1 [] else if unfit then says 2 [] else if short then says 3 (n ∷ []) else firstSays body ts in
     says 0 vs ≡ answer → lastOr 0 vs ≡ movedBy answer at (cursorAfter body ts)
@@ -39,7 +35,7 @@ by-answer true unfit short n at body ts vs q = let z : _≡_ {A = ℕ} 0 1 = cc 
 by-answer false true short n at body ts vs q = let z : _≡_ {A = ℕ} 0 2 = cc in absurd (omega arith)
 by-answer false false true n at body ts vs q = let z : _≡_ {A = ℕ} 0 3 = cc in absurd (omega arith)
 by-answer false false false n at body [] vs q = ap lastSaid q
-by-answer false false false n at body (t ∷ ts) vs q = ap lastSaid q ∙ next-said body (t ∷ ts)
+by-answer false false false n at body (t ∷ ts) vs q = ap lastSaid q ∙ last-value 0 (trailerAt t) (endOf t)
 
 module _ (body : List ℕ) (at room : ℕ) where
   pub moves : (vs : List ℕ) (m : ℕ) → says 0 (vs ++ (m ∷ [])) ≡ stepAnswer Kind.All body at room → m ≡ cursorLeft body at room

@@ -34,8 +34,9 @@ returns : tie.Need-returns
 returns c =
     let a = c .before .before .before .before .before .before .before .before .before .args in
     let e = c .before .before .before .before .before .next-trailer .ensures in
-    let q = rw (c .before .step .given .1) at (e .0) in
-    (q, (moves (a .body .now) (a .at) (length (a .out .now)) (trailerSays (c .before .step .given .0 .0)) (c .before .step .given .0 .1 .0 .at) q, e .1))
+    let g = c .before .step .given in
+    let q = rw (g .1) at (e .0) in
+    (q, (moves (a .body .now) (a .at) (length (a .out .now)) (trailerSays (g .0 .0)) (g .0 .1 .0 .at) q, e .1))
 
 -- src/lib.rt:19:1
 same-length-2 : tie.Need-same-length-2
@@ -46,8 +47,9 @@ returns-2 : tie.Need-returns-2
 returns-2 c =
     let a = c .before .before .before .before .before .before .before .before .before .args in
     let e = c .before .before .before .before .before .next-trailer .ensures in
-    let q = rw (c .before .step2 .given .1) at (e .0) in
-    (q, (moves (a .body .now) (a .at) (length (a .out .now)) [] (c .before .step2 .given .0 .0 .at) q, e .1))
+    let g = c .before .step2 .given in
+    let q = rw (g .1) at (e .0) in
+    (q, (moves (a .body .now) (a .at) (length (a .out .now)) [] (g .0 .0 .at) q, e .1))
 
 -- src/lib.rt:19:1
 same-length-3 : tie.Need-same-length-3
@@ -58,7 +60,8 @@ returns-3 : tie.Need-returns-3
 returns-3 c =
     let a = c .before .before .before .before .before .before .before .before .args in
     let e = c .before .before .before .before .next-trailer .ensures in
-    (e .0, (stays (a .body .now) (a .at) (length (a .out .now)) (c .enum-told .given .0 .0) (rw (c .enum-told .given .1) at (e .0)), e .1))
+    let g = c .enum-told .given in
+    (e .0, (stays (a .body .now) (a .at) (length (a .out .now)) (g .0 .0) (rw (g .1) at (e .0)), e .1))
 
 pub step-from-spec : {M : Type 1} → statement M
 step-from-spec =
