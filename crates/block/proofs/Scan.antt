@@ -17,14 +17,32 @@ use Rattle.rules.specs.Lists.{if_then_else_, All, filled, join, starts}
 use Rattle.rules.specs.Paragraph.{recognised, leads, Group, Grouped, grouped, groupedLines, leadCount, otherCount, anyRecognised}
 use Rattle.rules.specs.Paragraph.{accepts, accepted, Above, nothing, atTop, under, aboveLines, solid, Body, empty, ended, bodyLines}
 use Rattle.rules.specs.Paragraph.{blockAt, startOf, onto, put, parse, blockStart}
-use Rattle.rules.specs.Trailer.{trailerLine, tokenIn}
+use Rattle.rules.specs.Trailer.{trailerLine, tokenIn, gapIn}
 use Rattle.rules.proofs.Lines.{filled-lines, join-lines, lines-prefix}
 use Rattle.rules.proofs.Lists.{and-right, or-cases, or-left, filled-some, is-true, is-false, join-append}
 use Rattle.rules.proofs.Paragraph.{leads-not-folds, parse-lines}
 use Rattle.rules.proofs.Trailer.{trailer-line}
+use Rattle.trailer.specs.Line.{parsed}
+use Rattle.trailer.specs.declared.line.TrailerLine.{TrailerLine}
 use Rattle.block.specs.declared.paragraph.Scan.{Scan}
 use Rattle.block.specs.declared.paragraph.Paragraph.{Paragraph}
 use Rattle.block.specs.Scan.{counts, counted, scanned, startIn, paragraph, lastParagraph, textEnd, endAbove}
+
+-- ---- a trailer line
+
+abbrev pub isAt : TrailerLine → Bool
+isAt (TrailerLine.At n at) = true
+isAt TrailerLine.NoTrailer = false
+
+-- what an answer of `parse_trailer_line` tells of the line
+pub told : (l : Line) (r q : TrailerLine) → r ≡ parsed l → r ≡ q → trailerLine l ≡ isAt q
+unfolding parsed
+told l r q e f = by (trailerLine l) ∙ ap isAt (sym e ∙ f)
+  where
+    by : (b : Bool)
+        → b ≡ isAt (if b then TrailerLine.At (length (tokenIn l)) (length (tokenIn l) + length (gapIn l)) else TrailerLine.NoTrailer)
+    by true = refl
+    by false = refl
 
 -- ---- one line more above
 

@@ -29,7 +29,7 @@ pub struct Paragraph {
 }
 
 // Whether a line starts with one of the prefixes that Git writes itself.
-fn is_recognized_prefix(line: &[u8]) -> bool
+pub fn is_recognized_prefix(line: &[u8]) -> bool
     ensures { λ r. ⌜ r ≡ recognised (now (line .entry)) ⌝ }
 {
     if starts_with(line, b"Signed-off-by: ") {
@@ -68,7 +68,7 @@ fn scan_line(mut scan: Scan, line: &[u8]) -> Scan
 }
 
 // The last paragraph: from the body's end upwards, line by line, to the blank line above it.
-fn last_paragraph(body: &[u8]) -> Paragraph
+pub fn last_paragraph(body: &[u8]) -> Paragraph
     ensures { λ r. ⌜ r ≡ lastParagraph (parse (lines (now (body .entry)))) ⌝ }
 {
     let mut scan = Scan {
@@ -96,7 +96,7 @@ fn last_paragraph(body: &[u8]) -> Paragraph
 
 // Git accepts the last paragraph if it is made entirely of trailers, or if it contains at least one recognized prefix and at
 // least 25% of it consists of trailer lines.
-fn accepts_as_trailer_block(
+pub fn accepts_as_trailer_block(
     recognized_prefix: bool,
     trailer_lines: usize,
     non_trailer_lines: usize,

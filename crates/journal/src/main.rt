@@ -1,4 +1,5 @@
-// Lists the entries of the journal: for each file that an argument names, its name and what the lister prints of it.
+// Lists the entries of the journal: for each file that an argument names, its name, what the lister prints of it, and its
+// reading.
 use libc::STDOUT_FILENO;
 
 fn main() {
@@ -8,7 +9,7 @@ fn main() {
     }
 }
 
-// Lists the entry in the file that argument `i` names, or says why it cannot be opened.
+// Lists and explains the entry in the file that argument `i` names, or says why it cannot be opened.
 fn list_entry(i: usize) {
     let mut name = io::buffer();
     let len = os::arg(i, &mut name);
@@ -22,4 +23,8 @@ fn list_entry(i: usize) {
     io::write_all(STDOUT_FILENO, b"\n");
     listing::list(fd);
     libc::close(fd);
+    io::write_all(STDOUT_FILENO, b"= reading\n");
+    let again = os::open_read(&name[..len]);
+    reading::explain(again);
+    libc::close(again);
 }

@@ -262,9 +262,10 @@ abbrev pub steps : List ℕ → ℕ → ℕ → ℕ → List Block
 steps body zero at start = []
 steps body (suc n) at start = stepping at (λ end. steps body n end end) (blocksFrom body at start)
 
-moves : (body : List ℕ) (at start : ℕ) (m t : List ℕ) (bs : List Block) → start ≤ length body → blocksFrom body at start ≡ block m t ∷ bs
+-- a block has bytes, and ends in the body
+pub block-moves : (body : List ℕ) (at start : ℕ) (m t : List ℕ) (bs : List Block) → start ≤ length body → blocksFrom body at start ≡ block m t ∷ bs
     → (0 < length m + length t) × (at + length m + length t ≤ length body)
-moves body at start m t bs h e =
+block-moves body at start m t bs h e =
     let inside : start - at ≤ length (drop at body) = omega (arith, length-drop at body) in
     let bytes : All hasBytes (block m t ∷ bs) = rw e at (division (drop at body) (start - at) inside .some-bytes) in
     let read : m ++ (t ++ joined bs) ≡ drop at body = sym (ap joined e) ∙ joined-blocks (drop at body) (start - at) in
@@ -288,7 +289,7 @@ steps-blocks body (suc n) at start w h = by (blocksFrom body at start) refl (ste
         → ((k l : ℕ) → l ≤ length body → length body < k + n → steps body n k l ≡ blocksFrom body k l) → stepping at (λ end. steps body n end end) bs ≡ bs
     by [] e more = refl
     by (block m t ∷ bs) e more =
-        let r = moves body at start m t bs w e in
+        let r = block-moves body at start m t bs w e in
         let end : ℕ = at + length m + length t in
         ap (λ (cs : List Block). block m t ∷ cs) (more end end (r .1) (omega arith) ∙ cursor-step body at start m t bs e end refl)
 

@@ -1,31 +1,9 @@
 -- `block::paragraph::scan_line` meets its contract. Assumes nothing.
-use mathlib.Core.Bool.{Bool, true, false}
-use mathlib.Core.Path.{_≡_, refl, sym, ap, _∙_}
-use Prim.Native.Nat.{_+_}
 use borrow.Author.Needs.{needs}
-use lib.ListN.{length}
-use Rattle.rules.specs.Lines.{Line}
-use Rattle.rules.specs.Lists.{if_then_else_}
 use Rattle.rules.specs.Paragraph.{leads}
-use Rattle.rules.specs.Trailer.{trailerLine, tokenIn, gapIn}
-use Rattle.trailer.specs.Line.{parsed}
-use Rattle.trailer.specs.declared.line.TrailerLine.{TrailerLine}
+use Rattle.block.proofs.Scan.{told}
 use Rattle.block.proofs.paragraph.scan_line.Statement.{statement}
 use Rattle.block.proofs.paragraph.scan_line.Tie as tie
-
-abbrev isAt : TrailerLine → Bool
-isAt (TrailerLine.At n at) = true
-isAt TrailerLine.NoTrailer = false
-
--- what an answer of `parse_trailer_line` tells of the line
-told : (l : Line) (r q : TrailerLine) → r ≡ parsed l → r ≡ q → trailerLine l ≡ isAt q
-unfolding parsed
-told l r q e f = by (trailerLine l) ∙ ap isAt (sym e ∙ f)
-  where
-    by : (b : Bool)
-        → b ≡ isAt (if b then TrailerLine.At (length (tokenIn l)) (length (tokenIn l) + length (gapIn l)) else TrailerLine.NoTrailer)
-    by true = refl
-    by false = refl
 
 is-recognized-prefix-requires : tie.Need-is-recognized-prefix-requires
 is-recognized-prefix-requires c κs = search needs

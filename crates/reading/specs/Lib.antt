@@ -1,0 +1,2 @@
+-- The kinds of the lines of the last paragraph.
+pub mod Kinds
