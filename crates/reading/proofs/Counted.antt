@@ -14,35 +14,26 @@ use Rattle.rules.proofs.Lists.{is-false}
 use Rattle.rules.proofs.Manual.{other-lines, trailer-count}
 use Rattle.reading.specs.Kinds.{kindOf, forgives, kinds, leading, others, sum}
 
-kinds-leading : (below : Bool) (ls : List Line) → sum leading (kinds below ls) ≡ trailerCount ls
-unfolding leads
-kinds-leading below [] = refl
-kinds-leading below (l ∷ ls) = by (recognised l) (trailerLine l) (indented l) below refl refl refl refl (λ b. kinds-leading b ls)
-  where
-    by : (r t i b : Bool) → recognised l ≡ r → trailerLine l ≡ t → indented l ≡ i → below ≡ b
-        → ((b : Bool) → sum leading (kinds b ls) ≡ trailerCount ls) → sum leading (kinds below (l ∷ ls)) ≡ trailerCount (l ∷ ls)
-    by true t i b e f g h more = simp e (omega (arith, more true))
-    by false true i b e f g h more = simp (e, f) (omega (arith, more true))
-    by false false true true e f g h more = simp (e, f, g, h) (omega (arith, more true))
-    by false false true false e f g h more = simp (e, f, g, h) (omega (arith, more false))
-    by false false false b e f g h more = simp (e, f, g) (omega (arith, more false))
+-- what two ways of counting add up to
+abbrev Counted : Bool → List Line → Type 0
+Counted below ls = (sum leading (kinds below ls) ≡ trailerCount ls) × (sum others (kinds below ls) ≡ otherLines below ls)
 
-kinds-others : (below : Bool) (ls : List Line) → All solid ls → sum others (kinds below ls) ≡ otherLines below ls
+kinds-add-up : (below : Bool) (ls : List Line) → All solid ls → Counted below ls
 unfolding leads folds
-kinds-others below [] s = refl
-kinds-others below (l ∷ ls) s =
-    by (recognised l) (trailerLine l) (indented l) below refl refl refl refl (is-false (blank l) (s .0)) (λ b. kinds-others b ls (s .1))
+kinds-add-up below [] s = (refl, refl)
+kinds-add-up below (l ∷ ls) s =
+    by (recognised l) (trailerLine l) (indented l) below refl refl refl refl (is-false (blank l) (s .0)) (λ b. kinds-add-up b ls (s .1))
   where
     by : (r t i b : Bool) → recognised l ≡ r → trailerLine l ≡ t → indented l ≡ i → below ≡ b → blank l ≡ false
-        → ((b : Bool) → sum others (kinds b ls) ≡ otherLines b ls) → sum others (kinds below (l ∷ ls)) ≡ otherLines below (l ∷ ls)
-    by true t i b e f g h n more = simp e (omega (arith, more true))
-    by false true i b e f g h n more = simp (e, f) (omega (arith, more true))
-    by false false true true e f g h n more = simp (e, f, g, h, n) (omega (arith, more true))
-    by false false true false e f g h n more = simp (e, f, g, h, n) (omega (arith, more false))
-    by false false false b e f g h n more = simp (e, f, g) (omega (arith, more false))
+        → ((b : Bool) → Counted b ls) → Counted below (l ∷ ls)
+    by true t i b e f g h n more = simp e (omega (arith, more true), omega (arith, more true))
+    by false true i b e f g h n more = simp (e, f) (omega (arith, more true), omega (arith, more true))
+    by false false true true e f g h n more = simp (e, f, g, h, n) (omega (arith, more true), omega (arith, more true))
+    by false false true false e f g h n more = simp (e, f, g, h, n) (omega (arith, more false), omega (arith, more false))
+    by false false false b e f g h n more = simp (e, f, g) (omega (arith, more false), omega (arith, more false))
 
 pub kinds-counted : (top : List Line) (gs : List Group) → IsGrouped (grouped top gs) → All solid (top ++ groupLines gs)
     → (sum leading (kinds false (top ++ groupLines gs)) ≡ leadCount gs)
     × (sum others (kinds false (top ++ groupLines gs)) ≡ length top + otherCount gs)
 kinds-counted top gs w s =
-    (kinds-leading false (top ++ groupLines gs) ∙ trailer-count top gs w, kinds-others false (top ++ groupLines gs) s ∙ other-lines top gs w)
+    let (t, n) = kinds-add-up false (top ++ groupLines gs) s in (t ∙ trailer-count top gs w, n ∙ other-lines top gs w)

@@ -9,14 +9,18 @@ use Rattle.rules.specs.Paragraph.{recognised}
 use Rattle.rules.specs.Trailer.{trailerLine}
 use Rattle.reading.specs.declared.LineKind.{LineKind}
 
--- "Each line is one of: recognised [..]; trailer line, where not recognised; indented: it counts for nothing if the nearest
--- line above it in the paragraph that isn't indented is of the first two kinds" (`below`), "and otherwise as another line;
--- another line"
+-- "it counts for nothing if the nearest line above it in the paragraph that isn't indented is of the first two kinds"
+-- (`below`), "and otherwise as another line"
+abbrev pub kindOfIndented : Bool → LineKind
+kindOfIndented true = LineKind.Forgiven
+kindOfIndented false = LineKind.NotForgiven
+
+-- "Each line is one of: recognised [..]; trailer line, where not recognised; indented [..]; another line"
 abbrev pub kindOf : Line → Bool → LineKind
 kindOf l below =
     if recognised l then LineKind.Recognised
     else if trailerLine l then LineKind.Trailer
-    else if indented l then (if below then LineKind.Forgiven else LineKind.NotForgiven)
+    else if indented l then kindOfIndented below
     else LineKind.Other
 
 -- whether an indented line directly under one of this kind has such a line above it

@@ -3,7 +3,7 @@
 ghost use mathlib.Core.Path.{_≡_};
 ghost use Prim.Native.Nat.{_*_, _^_, _<_, _≤_};
 ghost use lib.ListN.{length};
-ghost use Rattle.reading.specs.Kinds.{forgives, kindOf};
+ghost use Rattle.reading.specs.Kinds.{forgives, kindOf, kindOfIndented};
 use block::paragraph::accepts_as_trailer_block;
 use block::paragraph::is_recognized_prefix;
 use block::paragraph::last_paragraph;
@@ -56,6 +56,13 @@ fn kind_of(line: &[u8], below: bool) -> LineKind
     if !is_indented(line) {
         return LineKind::Other;
     }
+    kind_of_indented(below)
+}
+
+// The kind of an indented line, which is neither recognised nor a trailer line.
+fn kind_of_indented(below: bool) -> LineKind
+    ensures { λ r. ⌜ r ≡ kindOfIndented below ⌝ }
+{
     if !below {
         return LineKind::NotForgiven;
     }

@@ -37,23 +37,16 @@ returns-3 c =
     let no = sym (c .before .is-indented .ensures) ∙ not-true _ (c .if2 .taken) in
     rw (← p .before .before .is-recognized-prefix .ensures, p .before .if1 .left, none, no)
 
+kind-of-indented-requires : tie.Need-kind-of-indented-requires
+kind-of-indented-requires c κs = search needs
+
 returns-4 : tie.Need-returns-4
 returns-4 c =
     let i = c .before in
     let p = i .before .before .before .before in
     let none = told _ _ _ (p .parse-trailer-line .ensures) (i .before .before .enum-told2 .given .1) in
     let yes = sym (i .before .is-indented .ensures) ∙ not-false _ (i .if2 .left) in
-    let r = p .before .before in
-    rw (← r .is-recognized-prefix .ensures, p .before .if1 .left, none, yes, not-true (r .before .before .args .below) (c .if3 .taken))
-
-returns-5 : tie.Need-returns-5
-returns-5 c =
-    let i = c .before in
-    let p = i .before .before .before .before in
-    let none = told _ _ _ (p .parse-trailer-line .ensures) (i .before .before .enum-told2 .given .1) in
-    let yes = sym (i .before .is-indented .ensures) ∙ not-false _ (i .if2 .left) in
-    let r = p .before .before in
-    rw (← r .is-recognized-prefix .ensures, p .before .if1 .left, none, yes, not-false (r .before .before .args .below) (c .if3 .left))
+    rw (← p .before .before .is-recognized-prefix .ensures, p .before .if1 .left, none, yes) (c .kind-of-indented .ensures)
 
 pub kind-of-spec : {M : Type 1} → statement M
 kind-of-spec =
@@ -67,5 +60,5 @@ kind-of-spec =
     enum-told-2
     is-indented-requires
     returns-3
-    returns-4
-    returns-5)
+    kind-of-indented-requires
+    returns-4)
