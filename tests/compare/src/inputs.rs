@@ -139,7 +139,7 @@ pub const WHITE: [&[u8]; 25] = [
 ];
 
 /// Overlong forms of white space, a surrogate, and what no UTF-8 holds.
-const NO_FORMS: [&[u8]; 12] = [
+pub const NO_FORMS: [&[u8]; 12] = [
     b"\xc0\xa0",
     b"\xc0\x8a",
     b"\xc0\x8d",

@@ -75,6 +75,14 @@ pub fn message_trailers(message: &[u8]) -> Vec<Trailer> {
     all(message, commit(message).message_trailers())
 }
 
+/// Where the walk of a message's trailers begins; the message's length where it has no body or its body no block.
+pub fn message_walk_start(message: &[u8]) -> usize {
+    match original::rest(&commit(message).message_trailers()) {
+        [] => message.len(),
+        rest => part(message, rest).start,
+    }
+}
+
 /// The trailers of a message that a filter lets through.
 pub fn message_filtered(message: &[u8], filter: Filter) -> Vec<Trailer> {
     message_through(message, filter, &message_trailers(message))
