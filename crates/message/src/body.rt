@@ -153,7 +153,7 @@ pub fn next_block(body: &[u8], cursor: BlockCursor) -> BlockStep
 }
 
 // Whether the part `token` of `input` is a token of the kind.
-fn ask(input: &[u8], token: Part, kind: Kind) -> YesNo
+pub fn ask(input: &[u8], token: Part, kind: Kind) -> YesNo
     ensures { λ r. ⌜ yesNoSays r ≡ questionAnswer kind (now (input .entry)) (token .start) (token .end) ⌝ }
 {
     let start = token.start;

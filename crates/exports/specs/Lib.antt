@@ -1,0 +1,2 @@
+-- How the answers of the calls cross to C and Rust.
+pub mod Numbers
