@@ -1,5 +1,5 @@
 // The public calls for C and Rust, as numbers and slices: include/sluicepod.h says how they are called there. Each makes one
-// call of crates/message, and `Numbers` of its answer.
+// call of crates/message, turns its answer into `Numbers` and puts them into `result`.
 ghost use mathlib.Core.List.{[], _∷_};
 ghost use mathlib.Core.Path.{_≡_};
 ghost use Prim.Native.Nat.{_≤_};
@@ -33,9 +33,10 @@ use rules::ValueFound;
 use rules::WalkFound;
 use rules::YesNo;
 
-// How many entries `result` must have, and the code where it has fewer.
+// How many entries `result` must have.
 const RESULT_LEN: usize = 7;
 
+// The code where it has fewer.
 const SHORT_RESULT: u32 = 255;
 
 // The code of a number that is no kind's.
@@ -61,7 +62,7 @@ enum Asked {
     NoKind,
 }
 
-// ---- answers as numbers
+// ---- answers as numbers: for each answer its number and the values that are said of it (crates/rules/specs/Answers)
 
 // An answer of `count` values, which stand first in `values`.
 fn said(code: u32, count: usize, values: [usize; 6]) -> Numbers
@@ -75,6 +76,7 @@ fn said(code: u32, count: usize, values: [usize; 6]) -> Numbers
     }
 }
 
+// Of a refusal, which every answer may be.
 fn refusal_numbers(refusal: Refusal) -> Numbers
     ensures { λ r. ⌜ Tells r (refused refusal) ⌝ }
 {
@@ -85,6 +87,7 @@ fn refusal_numbers(refusal: Refusal) -> Numbers
     }
 }
 
+// Of an answer of `message_title_and_body`.
 fn title_numbers(answer: TitleAndBody) -> Numbers
     ensures { λ r. ⌜ Tells r (titleSays answer) ⌝ }
 {
@@ -116,6 +119,7 @@ fn place_of(value: Value) -> Place
     }
 }
 
+// Of an answer of `summary` and `message_summary`.
 fn value_numbers(answer: ValueFound) -> Numbers
     ensures { λ r. ⌜ Tells r (valueFoundSays answer) ⌝ }
 {
@@ -128,6 +132,7 @@ fn value_numbers(answer: ValueFound) -> Numbers
     }
 }
 
+// Of an answer of `trailer_block_start`.
 fn start_numbers(answer: StartFound) -> Numbers
     ensures { λ r. ⌜ Tells r (startSays answer) ⌝ }
 {
@@ -137,6 +142,7 @@ fn start_numbers(answer: StartFound) -> Numbers
     }
 }
 
+// Of an answer of `message_trailers`.
 fn walk_numbers(answer: WalkFound) -> Numbers
     ensures { λ r. ⌜ Tells r (walkFoundSays answer) ⌝ }
 {
@@ -146,6 +152,7 @@ fn walk_numbers(answer: WalkFound) -> Numbers
     }
 }
 
+// Of an answer of `next_trailer_of`.
 fn step_numbers(answer: TrailerStep) -> Numbers
     ensures { λ r. ⌜ Tells r (trailerStepSays answer) ⌝ }
 {
@@ -171,6 +178,7 @@ fn step_numbers(answer: TrailerStep) -> Numbers
     }
 }
 
+// Of an answer of `find_trailer`.
 fn found_numbers(answer: TrailerFound) -> Numbers
     ensures { λ r. ⌜ Tells r (trailerFoundSays answer) ⌝ }
 {
@@ -196,6 +204,7 @@ fn found_numbers(answer: TrailerFound) -> Numbers
     }
 }
 
+// Of an answer of `next_block`.
 fn block_numbers(answer: BlockStep) -> Numbers
     ensures { λ r. ⌜ Tells r (blockStepSays answer) ⌝ }
 {
@@ -210,6 +219,7 @@ fn block_numbers(answer: BlockStep) -> Numbers
     }
 }
 
+// Of an answer of `ask`.
 fn question_numbers(answer: YesNo) -> Numbers
     ensures { λ r. ⌜ Tells r (yesNoSays answer) ⌝ }
 {

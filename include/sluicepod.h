@@ -1,0 +1,116 @@
+/* Sluicepod: the trailers, blocks, title and summary of a commit message.
+ *
+ * Link libexports.a, which `rt staticlib exports` writes to target/staticlib (x86-64).
+ *
+ * Input. A message, title or body is lent as a pointer and its length in bytes. No input may be longer than
+ * SLUICEPOD_LIMIT. It is only read, need not be UTF-8, and needs no terminating zero. A pointer must be good for the
+ * length that goes with it, and never null, also where that is 0. What a call writes to must overlap nothing else that
+ * the same call is lent. Positions, starts and ends are offsets in bytes from the front of the input; a part runs from
+ * its start up to, and without, its end.
+ *
+ * Code. Each call returns a code:
+ *     SLUICEPOD_OK             an answer; the end of a walk, "no body" and "no such trailer" are answers
+ *     SLUICEPOD_TOO_LONG       an input is over the limit
+ *     SLUICEPOD_BAD_PLACE      a position is past the input, or a range does not fit in it
+ *     SLUICEPOD_NO_ROOM        `out` is shorter than what is to be written; the exact length needed is the one value
+ *     SLUICEPOD_NO_KIND        `kind` is no enum sluicepod_kind
+ *     SLUICEPOD_SHORT_RESULT   `result` has fewer than SLUICEPOD_RESULT_LEN entries
+ * Where several hold, the code is the first of SHORT_RESULT, NO_KIND, TOO_LONG, BAD_PLACE, NO_ROOM.
+ *
+ * Result. The values of an answer are written to the front of `result`: result[0] says how many there are, and
+ * result[1], result[2], .. are the values, in the order that each call gives below. Entries behind them are kept.
+ * The refusals TOO_LONG, BAD_PLACE and NO_KIND have no values (result[0] is 0), NO_ROOM has one. SHORT_RESULT alone
+ * writes nothing, neither to `result` nor to `out`. Every call asks for the same SLUICEPOD_RESULT_LEN entries.
+ *
+ * Out. A summary, or a trailer's value, that is not a part of the input as it stands is written to the front of `out`;
+ * bytes behind it are kept, and with any code but SLUICEPOD_OK all of them are. `out` of the input's length is always
+ * enough. Where a value stands is given by three values, its place:
+ *     0, start, end            a part of the input
+ *     1, start, end            a part of `out`
+ */
+#ifndef SLUICEPOD_H
+#define SLUICEPOD_H
+
+#include <stddef.h>
+#include <stdint.h>
+
+#ifdef __cplusplus
+extern "C" {
+#endif
+
+/* The longest input, in bytes. */
+#define SLUICEPOD_LIMIT 1048576
+
+/* How many entries `result` must have: one for how many values there are, and at most six values. */
+#define SLUICEPOD_RESULT_LEN 7
+
+/* The codes. */
+enum sluicepod_code {
+    SLUICEPOD_OK = 0,
+    SLUICEPOD_TOO_LONG = 1,
+    SLUICEPOD_BAD_PLACE = 2,
+    SLUICEPOD_NO_ROOM = 3,
+    SLUICEPOD_NO_KIND = 254,
+    SLUICEPOD_SHORT_RESULT = 255
+};
+
+/* Which tokens a walk or a question is about. Tokens are compared without regard to ASCII case. */
+enum sluicepod_kind {
+    SLUICEPOD_ALL = 0,            /* every token */
+    SLUICEPOD_SIGNED_OFF_BY = 1,  /* Signed-off-by */
+    SLUICEPOD_CO_AUTHORED_BY = 2, /* Co-authored-by */
+    SLUICEPOD_ASSISTED_BY = 3,    /* Assisted-by */
+    SLUICEPOD_ACKED_BY = 4,       /* Acked-by */
+    SLUICEPOD_REVIEWED_BY = 5,    /* Reviewed-by */
+    SLUICEPOD_TESTED_BY = 6,      /* Tested-by */
+    SLUICEPOD_ATTRIBUTION = 7,    /* any of these six */
+    SLUICEPOD_AUTHOR = 8          /* Signed-off-by or Co-authored-by */
+};
+
+/* The title and the body of a message. The title begins at 0, the body ends at the message's end.
+ * Values: where the title ends, where the body starts; the first alone where there is no body. */
+uint32_t sluicepod_title_and_body(const uint8_t *message, size_t message_len, size_t *result, size_t result_len);
+
+/* The summary of a title, in one line. Values: its place (three). */
+uint32_t sluicepod_summary(const uint8_t *title, size_t title_len, uint8_t *out, size_t out_len, size_t *result,
+                           size_t result_len);
+
+/* The summary of a whole message, by the rule for a title. It is not always that of the title: with line ends of CR LF
+ * the body is read too. Values: its place (three). */
+uint32_t sluicepod_message_summary(const uint8_t *message, size_t message_len, uint8_t *out, size_t out_len,
+                                   size_t *result, size_t result_len);
+
+/* Where the trailer block of a body starts. Values: the start; the body's length where there is no block. */
+uint32_t sluicepod_block_start(const uint8_t *body, size_t body_len, size_t *result, size_t result_len);
+
+/* Where the walk of a message's trailers begins: hand it to sluicepod_next_trailer, with the message as the body.
+ * Values: the position; the message's length where there is no body or no block. */
+uint32_t sluicepod_message_trailers(const uint8_t *message, size_t message_len, size_t *result, size_t result_len);
+
+/* The next trailer from the position `at` on whose token is of the kind. The walk of a body begins at its block's start.
+ * Values: the token's start, the token's end, the value's place (three), the position to go on from;
+ * at the end of the walk the position alone, which is the body's length. */
+uint32_t sluicepod_next_trailer(const uint8_t *body, size_t body_len, size_t at, uint32_t kind, uint8_t *out,
+                                size_t out_len, size_t *result, size_t result_len);
+
+/* The first trailer of a body whose token is `name`, ASCII case aside; an empty name is found nowhere.
+ * Values: the token's start, the token's end, the value's place (three); none where there is no such trailer. */
+uint32_t sluicepod_find_trailer(const uint8_t *body, size_t body_len, const uint8_t *name, size_t name_len,
+                                uint8_t *out, size_t out_len, size_t *result, size_t result_len);
+
+/* The next block from the position `at` on: a message and the trailers under it. `start` is where the body's trailer
+ * block starts; one before `at` counts as `at`. The walk begins with at 0 and the block's start.
+ * Values: the message's end (it begins at `at`), the block's end (the trailers stand between the two), then the `at`
+ * and the `start` to go on from; at the end of the walk the last two alone, which are the body's length. */
+uint32_t sluicepod_next_block(const uint8_t *body, size_t body_len, size_t at, size_t start, size_t *result,
+                              size_t result_len);
+
+/* Whether the part of `input` from `start` up to `end` is a token of the kind. Values: 1 for yes, 0 for no. */
+uint32_t sluicepod_is_of_kind(const uint8_t *input, size_t input_len, size_t start, size_t end, uint32_t kind,
+                              size_t *result, size_t result_len);
+
+#ifdef __cplusplus
+}
+#endif
+
+#endif

@@ -1,0 +1,233 @@
+/* The calls of include/sluicepod.h, through the archive: document 01's cases by their numbers, a walk, and the refusals.
+ * Each check gives a call, the code that it must return, what it must write to the front of `out`, and what to the front
+ * of `result`: how many values there are, and the values. All behind that must be as it was. */
+#include <stdio.h>
+#include <stdlib.h>
+#include <string.h>
+
+#include "sluicepod.h"
+
+#define BYTES(s) (const uint8_t *)(s), sizeof(s) - 1
+#define OUT out, sizeof out
+#define RESULT result, SLUICEPOD_RESULT_LEN
+
+enum { ENTRIES = 9, KEPT_ENTRY = 77, KEPT_BYTE = '.' };
+
+static uint8_t out[32];
+static size_t result[ENTRIES];
+static int checks, failures;
+
+static void reset(void) {
+    memset(out, KEPT_BYTE, sizeof out);
+    for (int i = 0; i < ENTRIES; i++)
+        result[i] = KEPT_ENTRY;
+}
+
+/* Whether `out` begins with the text, and `result` with the entries, and all behind them is as it was. */
+static int is_left(const char *text, const size_t *entries, size_t count) {
+    size_t len = strlen(text);
+    if (memcmp(out, text, len) != 0)
+        return 0;
+    for (size_t i = len; i < sizeof out; i++)
+        if (out[i] != KEPT_BYTE)
+            return 0;
+    for (size_t i = 0; i < ENTRIES; i++)
+        if (result[i] != (i < count ? entries[i] : KEPT_ENTRY))
+            return 0;
+    return 1;
+}
+
+static void check(int line, const char *call, uint32_t code, int good) {
+    checks++;
+    if (good)
+        return;
+    failures++;
+    printf("test.c:%d: %s: code %u, result", line, call, (unsigned)code);
+    for (int i = 0; i < ENTRIES; i++)
+        printf(" %zu", result[i]);
+    printf(", out \"%.*s\"\n", (int)sizeof out, (const char *)out);
+}
+
+#define EXPECT(call, code, text, ...)                                                                                  \
+    do {                                                                                                               \
+        const size_t want[] = {__VA_ARGS__};                                                                           \
+        reset();                                                                                                       \
+        uint32_t got = call;                                                                                           \
+        check(__LINE__, #call, got, got == code && is_left(text, want, sizeof want / sizeof want[0]));                 \
+    } while (0)
+
+#define EXPECT_NOTHING_WRITTEN(call, code)                                                                             \
+    do {                                                                                                               \
+        reset();                                                                                                       \
+        uint32_t got = call;                                                                                           \
+        check(__LINE__, #call, got, got == code && is_left("", NULL, 0));                                              \
+    } while (0)
+
+static void titles_and_summaries(void) {
+    /* 1 to 3 */
+    EXPECT(sluicepod_title_and_body(BYTES(""), RESULT), SLUICEPOD_OK, "", 1, 0);
+    EXPECT(sluicepod_title_and_body(BYTES("a\r\n\r\n"), RESULT), SLUICEPOD_OK, "", 1, 1);
+    EXPECT(sluicepod_title_and_body(BYTES("a\n\r\nb"), RESULT), SLUICEPOD_OK, "", 2, 1, 4);
+    /* 4: the title's summary and the whole message's */
+    EXPECT(sluicepod_title_and_body(BYTES("a\r\n\r\nb"), RESULT), SLUICEPOD_OK, "", 2, 1, 5);
+    EXPECT(sluicepod_summary(BYTES("a"), OUT, RESULT), SLUICEPOD_OK, "", 3, 0, 0, 1);
+    EXPECT(sluicepod_message_summary(BYTES("a\r\n\r\nb"), OUT, RESULT), SLUICEPOD_OK, "a  b", 3, 1, 0, 4);
+    /* 5 */
+    EXPECT(sluicepod_summary(BYTES("a \n  b"), OUT, RESULT), SLUICEPOD_OK, "a   b", 3, 1, 0, 5);
+}
+
+static void starts_and_blocks(void) {
+    /* 6 */
+    EXPECT(sluicepod_block_start(BYTES("x\r\n\r\nA: b"), RESULT), SLUICEPOD_OK, "", 1, 1);
+    EXPECT(sluicepod_next_block(BYTES("x\r\n\r\nA: b"), 0, 1, RESULT), SLUICEPOD_OK, "", 4, 5, 9, 9, 9);
+    EXPECT(sluicepod_next_block(BYTES("x\r\n\r\nA: b"), 9, 9, RESULT), SLUICEPOD_OK, "", 2, 9, 9);
+    /* 7 and 8 */
+    EXPECT(sluicepod_block_start(BYTES("Signed-off-by: a\nx\ny\nz"), RESULT), SLUICEPOD_OK, "", 1, 0);
+    EXPECT(sluicepod_block_start(BYTES("Signed-off-by: a\nx\ny\nz\nw"), RESULT), SLUICEPOD_OK, "", 1, 24);
+    /* 9 to 11 */
+    EXPECT(sluicepod_block_start(BYTES("Signed-off-by:a\nx"), RESULT), SLUICEPOD_OK, "", 1, 17);
+    EXPECT(sluicepod_block_start(BYTES("(cherry picked from commit 1)"), RESULT), SLUICEPOD_OK, "", 1, 0);
+    EXPECT(sluicepod_next_block(BYTES("(cherry picked from commit 1)"), 0, 0, RESULT), SLUICEPOD_OK, "", 4, 29, 29, 29, 29);
+    EXPECT(sluicepod_block_start(BYTES(" c\nA: b"), RESULT), SLUICEPOD_OK, "", 1, 7);
+    /* 14: the first message is empty, the second is "x\n" */
+    EXPECT(sluicepod_block_start(BYTES("A: b\nSigned-off-by: c\nx\nD: e\n"), RESULT), SLUICEPOD_OK, "", 1, 0);
+    EXPECT(sluicepod_next_block(BYTES("A: b\nSigned-off-by: c\nx\nD: e\n"), 0, 0, RESULT), SLUICEPOD_OK, "", 4, 0, 22, 22, 22);
+    EXPECT(sluicepod_next_block(BYTES("A: b\nSigned-off-by: c\nx\nD: e\n"), 22, 22, RESULT), SLUICEPOD_OK, "", 4, 24, 29, 29, 29);
+    EXPECT(sluicepod_next_block(BYTES("A: b\nSigned-off-by: c\nx\nD: e\n"), 29, 29, RESULT), SLUICEPOD_OK, "", 2, 29, 29);
+}
+
+static void trailers(void) {
+    /* 7: one trailer, then the end; 8 and 10: none */
+    EXPECT(sluicepod_next_trailer(BYTES("Signed-off-by: a\nx\ny\nz"), 0, SLUICEPOD_ALL, OUT, RESULT), SLUICEPOD_OK, "", 6, 0, 13, 0, 15, 16, 17);
+    EXPECT(sluicepod_next_trailer(BYTES("Signed-off-by: a\nx\ny\nz"), 17, SLUICEPOD_ALL, OUT, RESULT), SLUICEPOD_OK, "", 1, 22);
+    EXPECT(sluicepod_next_trailer(BYTES("Signed-off-by: a\nx\ny\nz\nw"), 24, SLUICEPOD_ALL, OUT, RESULT), SLUICEPOD_OK, "", 1, 24);
+    EXPECT(sluicepod_next_trailer(BYTES("(cherry picked from commit 1)"), 0, SLUICEPOD_ALL, OUT, RESULT), SLUICEPOD_OK, "", 1, 29);
+    /* 12: the vertical tab is no blank, so the value goes on */
+    EXPECT(sluicepod_block_start(BYTES("A: b\n\t\v\n c"), RESULT), SLUICEPOD_OK, "", 1, 0);
+    EXPECT(sluicepod_next_trailer(BYTES("A: b\n\t\v\n c"), 0, SLUICEPOD_ALL, OUT, RESULT), SLUICEPOD_OK, "b c", 6, 0, 1, 1, 0, 3, 10);
+    /* 13 */
+    EXPECT(sluicepod_next_trailer(BYTES("Acked-by : A"), 0, SLUICEPOD_ALL, OUT, RESULT), SLUICEPOD_OK, "", 6, 0, 8, 0, 11, 12, 12);
+    EXPECT(sluicepod_next_trailer(BYTES(":x"), 0, SLUICEPOD_ALL, OUT, RESULT), SLUICEPOD_OK, "", 1, 2);
+    /* by kind, by name, in a message */
+    EXPECT(sluicepod_next_trailer(BYTES("A: b\nSigned-off-by: c\nx\nD: e\n"), 0, SLUICEPOD_AUTHOR, OUT, RESULT), SLUICEPOD_OK, "", 6, 5, 18, 0, 20, 21, 22);
+    EXPECT(sluicepod_find_trailer(BYTES("A: b\nSigned-off-by: c\nx\nD: e\n"), BYTES("d"), OUT, RESULT), SLUICEPOD_OK, "", 5, 24, 25, 0, 27, 28);
+    EXPECT(sluicepod_find_trailer(BYTES("A: b\n\t\v\n c"), BYTES("a"), OUT, RESULT), SLUICEPOD_OK, "b c", 5, 0, 1, 1, 0, 3);
+    EXPECT(sluicepod_find_trailer(BYTES("A: b"), BYTES(""), OUT, RESULT), SLUICEPOD_OK, "", 0);
+    EXPECT(sluicepod_message_trailers(BYTES("t\n\nx\n\nA: b"), RESULT), SLUICEPOD_OK, "", 1, 4);
+    EXPECT(sluicepod_message_trailers(BYTES("t\n\n"), RESULT), SLUICEPOD_OK, "", 1, 3);
+}
+
+/* The lister's example, walked as a caller walks: each trailer as `token: value`. */
+static void walk(void) {
+    static const char message[] = "t\n\nx\n\nVehicle: 7\nRecords: 318,\n 22 late\n";
+    const uint8_t *input = (const uint8_t *)message;
+    size_t len = sizeof message - 1;
+    char listed[64] = "";
+    size_t used = 0;
+    reset();
+    uint32_t code = sluicepod_message_trailers(input, len, RESULT);
+    size_t at = result[1];
+    while (code == SLUICEPOD_OK) {
+        code = sluicepod_next_trailer(input, len, at, SLUICEPOD_ALL, OUT, RESULT);
+        if (code != SLUICEPOD_OK || result[0] == 1)
+            break;
+        const uint8_t *holds = result[3] == 0 ? input : out;
+        used += (size_t)snprintf(listed + used, sizeof listed - used, "%.*s: %.*s\n", (int)(result[2] - result[1]),
+                                 message + result[1], (int)(result[5] - result[4]), (const char *)holds + result[4]);
+        at = result[6];
+    }
+    check(__LINE__, listed, code,
+          code == SLUICEPOD_OK && result[1] == len && strcmp(listed, "Vehicle: 7\nRecords: 318, 22 late\n") == 0);
+}
+
+/* The kinds by their numbers: for each token, which of the nine questions is answered with yes. */
+static void kinds(void) {
+    static const struct {
+        const char *token;
+        const char *answers;
+    } table[] = {
+        {"x", "100000000"},           {"signed-off-by", "110000011"}, {"Co-Authored-By", "101000011"},
+        {"Assisted-by", "100100010"}, {"Acked-by", "100010010"},      {"Reviewed-by", "100001010"},
+        {"TESTED-BY", "100000110"},
+    };
+    for (size_t i = 0; i < sizeof table / sizeof table[0]; i++)
+        for (uint32_t kind = 0; kind <= SLUICEPOD_AUTHOR; kind++) {
+            const uint8_t *token = (const uint8_t *)table[i].token;
+            size_t len = strlen(table[i].token);
+            EXPECT(sluicepod_is_of_kind(token, len, 0, len, kind, RESULT), SLUICEPOD_OK, "", 1, (size_t)(table[i].answers[kind] - '0'));
+        }
+}
+
+static void places_and_room(void) {
+    EXPECT(sluicepod_next_trailer(BYTES("A: b"), 5, SLUICEPOD_ALL, OUT, RESULT), SLUICEPOD_BAD_PLACE, "", 0);
+    EXPECT(sluicepod_next_block(BYTES("A: b"), 5, 0, RESULT), SLUICEPOD_BAD_PLACE, "", 0);
+    EXPECT(sluicepod_next_block(BYTES("A: b"), 0, 5, RESULT), SLUICEPOD_BAD_PLACE, "", 0);
+    EXPECT(sluicepod_is_of_kind(BYTES("A: b"), 0, 5, SLUICEPOD_ALL, RESULT), SLUICEPOD_BAD_PLACE, "", 0);
+    EXPECT(sluicepod_is_of_kind(BYTES("A: b"), 2, 1, SLUICEPOD_ALL, RESULT), SLUICEPOD_BAD_PLACE, "", 0);
+    /* one byte short, and exactly full */
+    EXPECT(sluicepod_summary(BYTES("a \n  b"), out, 4, RESULT), SLUICEPOD_NO_ROOM, "", 1, 5);
+    EXPECT(sluicepod_summary(BYTES("a \n  b"), out, 5, RESULT), SLUICEPOD_OK, "a   b", 3, 1, 0, 5);
+    EXPECT(sluicepod_message_summary(BYTES("a\nb"), out, 0, RESULT), SLUICEPOD_NO_ROOM, "", 1, 3);
+    EXPECT(sluicepod_next_trailer(BYTES("A: b\n c"), 0, SLUICEPOD_ALL, out, 2, RESULT), SLUICEPOD_NO_ROOM, "", 1, 3);
+    EXPECT(sluicepod_next_trailer(BYTES("A: b\n c"), 0, SLUICEPOD_ALL, out, 3, RESULT), SLUICEPOD_OK, "b c", 6, 0, 1, 1, 0, 3, 7);
+    EXPECT(sluicepod_find_trailer(BYTES("A: b\n c"), BYTES("A"), out, 2, RESULT), SLUICEPOD_NO_ROOM, "", 1, 3);
+    /* a part of the input needs no room */
+    EXPECT(sluicepod_next_trailer(BYTES("A: b"), 0, SLUICEPOD_ALL, out, 0, RESULT), SLUICEPOD_OK, "", 6, 0, 1, 0, 3, 4, 4);
+    /* no kind: before the place is looked at */
+    EXPECT(sluicepod_next_trailer(BYTES("A: b\n c"), 8, 9, OUT, RESULT), SLUICEPOD_NO_KIND, "", 0);
+    EXPECT(sluicepod_is_of_kind(BYTES("A: b"), 0, 5, 9, RESULT), SLUICEPOD_NO_KIND, "", 0);
+    EXPECT(sluicepod_is_of_kind(BYTES("A: b"), 0, 1, UINT32_MAX, RESULT), SLUICEPOD_NO_KIND, "", 0);
+}
+
+static void limit(void) {
+    size_t len = SLUICEPOD_LIMIT;
+    uint8_t *input = malloc(len + 1);
+    if (input == NULL)
+        exit(2);
+    memset(input, 'x', len + 1);
+    EXPECT(sluicepod_title_and_body(input, len, RESULT), SLUICEPOD_OK, "", 1, len);
+    EXPECT(sluicepod_title_and_body(input, len + 1, RESULT), SLUICEPOD_TOO_LONG, "", 0);
+    EXPECT(sluicepod_summary(input, len, OUT, RESULT), SLUICEPOD_OK, "", 3, 0, 0, len);
+    EXPECT(sluicepod_summary(input, len + 1, OUT, RESULT), SLUICEPOD_TOO_LONG, "", 0);
+    EXPECT(sluicepod_message_summary(input, len + 1, OUT, RESULT), SLUICEPOD_TOO_LONG, "", 0);
+    EXPECT(sluicepod_block_start(input, len, RESULT), SLUICEPOD_OK, "", 1, len);
+    EXPECT(sluicepod_block_start(input, len + 1, RESULT), SLUICEPOD_TOO_LONG, "", 0);
+    EXPECT(sluicepod_message_trailers(input, len + 1, RESULT), SLUICEPOD_TOO_LONG, "", 0);
+    EXPECT(sluicepod_find_trailer(input, len + 1, BYTES("A"), OUT, RESULT), SLUICEPOD_TOO_LONG, "", 0);
+    EXPECT(sluicepod_find_trailer(BYTES("A: b"), input, len + 1, OUT, RESULT), SLUICEPOD_TOO_LONG, "", 0);
+    /* before the place is looked at */
+    EXPECT(sluicepod_next_trailer(input, len + 1, len + 2, SLUICEPOD_ALL, OUT, RESULT), SLUICEPOD_TOO_LONG, "", 0);
+    EXPECT(sluicepod_next_block(input, len + 1, len + 2, 0, RESULT), SLUICEPOD_TOO_LONG, "", 0);
+    EXPECT(sluicepod_is_of_kind(input, len + 1, 1, 0, SLUICEPOD_ALL, RESULT), SLUICEPOD_TOO_LONG, "", 0);
+    /* a short result, before all else */
+    EXPECT_NOTHING_WRITTEN(sluicepod_title_and_body(input, len + 1, result, SLUICEPOD_RESULT_LEN - 1), SLUICEPOD_SHORT_RESULT);
+    free(input);
+}
+
+static void short_results(void) {
+    for (size_t len = 0; len < SLUICEPOD_RESULT_LEN; len++) {
+        EXPECT_NOTHING_WRITTEN(sluicepod_title_and_body(BYTES("a\n\nb"), result, len), SLUICEPOD_SHORT_RESULT);
+        EXPECT_NOTHING_WRITTEN(sluicepod_summary(BYTES("a\nb"), OUT, result, len), SLUICEPOD_SHORT_RESULT);
+        EXPECT_NOTHING_WRITTEN(sluicepod_message_summary(BYTES("a\nb"), OUT, result, len), SLUICEPOD_SHORT_RESULT);
+        EXPECT_NOTHING_WRITTEN(sluicepod_block_start(BYTES("A: b"), result, len), SLUICEPOD_SHORT_RESULT);
+        EXPECT_NOTHING_WRITTEN(sluicepod_message_trailers(BYTES("t\n\nA: b"), result, len), SLUICEPOD_SHORT_RESULT);
+        EXPECT_NOTHING_WRITTEN(sluicepod_next_trailer(BYTES("A: b\n c"), 0, SLUICEPOD_ALL, OUT, result, len), SLUICEPOD_SHORT_RESULT);
+        EXPECT_NOTHING_WRITTEN(sluicepod_next_trailer(BYTES("A: b\n c"), 0, 9, OUT, result, len), SLUICEPOD_SHORT_RESULT);
+        EXPECT_NOTHING_WRITTEN(sluicepod_find_trailer(BYTES("A: b\n c"), BYTES("A"), OUT, result, len), SLUICEPOD_SHORT_RESULT);
+        EXPECT_NOTHING_WRITTEN(sluicepod_next_block(BYTES("A: b"), 0, 0, result, len), SLUICEPOD_SHORT_RESULT);
+        EXPECT_NOTHING_WRITTEN(sluicepod_is_of_kind(BYTES("A: b"), 0, 1, SLUICEPOD_ALL, result, len), SLUICEPOD_SHORT_RESULT);
+    }
+}
+
+int main(void) {
+    titles_and_summaries();
+    starts_and_blocks();
+    trailers();
+    walk();
+    kinds();
+    places_and_room();
+    limit();
+    short_results();
+    printf("tests/c: %d checks, %d failed\n", checks, failures);
+    return failures != 0;
+}
