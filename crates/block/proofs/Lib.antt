@@ -1,4 +1,2 @@
--- Laws of the backward scan and of the block step.
-pub mod Scan
-pub mod Upward
+-- Laws of the block step.
 pub mod Step

@@ -17,12 +17,12 @@ use Rattle.rules.proofs.Lines.{join-lines, lines-suffix}
 use Rattle.rules.proofs.Lists.{join-append, past-stops, run-past, run-shorter}
 use Rattle.rules.proofs.Trailer.{plain}
 use Rattle.text.specs.Lines.{firstLength}
-use Rattle.text.proofs.Parts.{rest}
+use Rattle.rules.proofs.Parts.{rest}
 use Rattle.trailer.specs.Line.{atStart}
 use Rattle.trailer.specs.declared.line.TrailerAtStart.{TrailerAtStart}
 use Rattle.trailer.proofs.AtStart.{start-within}
-use Rattle.trailer.proofs.ByLines.{line-then, line-length}
-use Rattle.block.specs.declared.walk.NextBlock.{NextBlock}
+use Rattle.text.proofs.ByLines.{line-then, line-length}
+use Rattle.block.specs.declared.NextBlock.{NextBlock}
 use Rattle.block.specs.Step.{messageLines, messageLength, partLines, partLength, nextBlock}
 
 -- `&s[at..]`

@@ -7,7 +7,7 @@ use Rattle.rules.specs.Division.{Block, block}
 use Rattle.rules.specs.Lines.{Line, lines, folds}
 use Rattle.rules.specs.Lists.{if_then_else_, join, run}
 use Rattle.rules.specs.Trailer.{trailerLine}
-use Rattle.block.specs.declared.walk.NextBlock.{NextBlock}
+use Rattle.block.specs.declared.NextBlock.{NextBlock}
 
 -- the lines at the front up to the first trailer line
 abbrev pub messageLines : List Line → List Line

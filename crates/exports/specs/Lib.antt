@@ -1,2 +1,2 @@
--- How the answers of the calls cross to C and Rust.
-pub mod Numbers
+-- The calls that take a kind.
+pub mod ByKind

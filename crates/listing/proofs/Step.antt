@@ -10,7 +10,7 @@ use denote.Enum.Declared.{tagOf}
 use lib.Dec.{ltb}
 use lib.ListN.{length}
 use types.Run.{OneOf, miss}
-use Rattle.message.specs.Body.{writtenOf, trailerAt, firstSays, firstWrites, stepAnswer}
+use Rattle.message.specs.Body.{trailerAt, firstSays, firstWrites, stepAnswer}
 use Rattle.rules.proofs.TrailerStep.{the-type}
 use Rattle.rules.proofs.Unfolded.{unfolded-short}
 use Rattle.rules.proofs.Walk.{walk-moves, walk-stands, walk-step, walk-within}
@@ -22,6 +22,7 @@ use Rattle.rules.specs.declared.Kind.{Kind}
 use Rattle.rules.specs.declared.Refusal.{Refusal}
 use Rattle.rules.specs.declared.TrailerRef.{TrailerRef}
 use Rattle.rules.specs.declared.TrailerStep.{TrailerStep}
+use Rattle.value.specs.Value.{writtenOf}
 
 -- ---- what is said
 

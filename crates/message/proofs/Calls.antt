@@ -10,8 +10,8 @@ use borrow.Author.Tests.{le-ltb}
 use lib.Dec.{leb, ltb}
 use lib.ListN.{length, take, drop}
 use Rattle.block.specs.Step.{nextBlock}
-use Rattle.block.specs.declared.walk.NextBlock.{NextBlock}
-use Rattle.rules.specs.Answers.{Said, says, afterwards, limit, refused, valueSays}
+use Rattle.block.specs.declared.NextBlock.{NextBlock}
+use Rattle.rules.specs.Answers.{Said, says, afterwards, limit, refused, valueSays, writtenAnswer}
 use Rattle.rules.specs.Division.{Block, block}
 use Rattle.rules.specs.Lists.{if_then_else_}
 use Rattle.rules.specs.Paragraph.{blockStart}
@@ -25,8 +25,9 @@ use Rattle.rules.proofs.Walk.{Stands, lookup-stands, only-stands}
 use Rattle.trailer.proofs.Steps.{First, first-is, none-is}
 use Rattle.trailer.specs.Walk.{nextOf}
 use Rattle.trailer.specs.declared.walk.NextTrailer.{NextTrailer}
+use Rattle.value.specs.Value.{valueAnswer, valueAt, valueBuffer, writtenOf}
 use Rattle.walk.specs.Lookup.{lookedUp}
-use Rattle.message.specs.Body.{blockSays, findAnswer, findBuffer, stepAnswer, stepBuffer, trailerAt, valueAnswer, valueAt, valueBuffer, writtenAnswer, writtenOf}
+use Rattle.message.specs.Body.{blockSays, findAnswer, findBuffer, stepAnswer, stepBuffer, trailerAt}
 use Rattle.message.specs.Message.{summaryAnswer, summaryBuffer}
 
 pub block-found : (body : List ℕ) (at : ℕ) (bs : List Block) {m e : ℕ} → nextBlock at bs ≡ NextBlock.Block m e
@@ -38,23 +39,6 @@ pub block-ended : (body : List ℕ) (at : ℕ) (bs : List Block) → nextBlock a
     → blockSays body at bs ≡ says 0 (length body ∷ length body ∷ [])
 block-ended body at [] q = refl
 block-ended body at (block m t ∷ bs) q = let z : _≡_ {A = ℕ} 0 1 = cc in absurd (omega arith)
-
--- ---- a value
-
-module _ (at : ℕ) (raw : List ℕ) where
-  -- with more than one line it is the unfolded value that is written
-  pub value-folded : valueIsWritten raw ≡ true → (room : ℕ) → writtenAnswer (unfolded raw) room ≡ valueAnswer at raw room
-  value-folded q room = rw q
-
-  pub buffer-folded : valueIsWritten raw ≡ true → (out : List ℕ) → afterwards [] true (unfolded raw) out ≡ valueBuffer raw out
-  buffer-folded q out = rw q
-
-  -- with at most one line it is a part of the input, and nothing is written
-  pub value-part : valueIsWritten raw ≡ false → (room : ℕ) → says 0 (0 ∷ (at + trimAt raw) ∷ (at + (trimAt raw + length (trim raw))) ∷ []) ≡ valueAnswer at raw room
-  value-part q room = rw (q, le-ltb room 0 (omega arith), add-assoc)
-
-  pub buffer-part : valueIsWritten raw ≡ false → (out : List ℕ) → out ≡ valueBuffer raw out
-  buffer-part q out = rw (q, le-ltb (length out) 0 (omega arith))
 
 -- what was said of a value tells whether there was room
 by-room : (b : Bool) (n : ℕ) (vs ws : List ℕ) → says 0 vs ≡ (if b then says 3 (n ∷ []) else says 0 ws) → (b ≡ false) × (vs ≡ ws)

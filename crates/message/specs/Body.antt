@@ -8,32 +8,9 @@ use Rattle.rules.specs.Answers.{Said, says, orRefused, afterwards, placeFits, r
 use Rattle.rules.specs.Division.{Block, block, blocksFrom}
 use Rattle.rules.specs.Lists.{if_then_else_}
 use Rattle.rules.specs.Paragraph.{blockStart}
-use Rattle.rules.specs.Trailer.{Trailer, placeOf, endOf, tokenOf, rawValue, rawValueAt, unfolded, valueIsWritten, isOf, lookup, only, walkFrom}
-use Rattle.rules.specs.White.{trim, trimAt}
+use Rattle.rules.specs.Trailer.{Trailer, placeOf, endOf, tokenOf, rawValue, rawValueAt, isOf, lookup, only, walkFrom}
 use Rattle.rules.specs.declared.Kind.{Kind}
-
--- ---- values
-
--- what is written of a raw value: the unfolded value, where the raw value has more than one line
-abbrev pub writtenOf : List ℕ → List ℕ
-writtenOf raw = if valueIsWritten raw then unfolded raw else []
-
--- where the value of a raw value stands that begins at `at`: at the buffer's front, or a part of the input
-abbrev pub valueAt : ℕ → List ℕ → List ℕ
-valueAt at raw =
-    if valueIsWritten raw then 1 ∷ 0 ∷ length (unfolded raw) ∷ []
-    else 0 ∷ (at + trimAt raw) ∷ (at + trimAt raw + length (trim raw)) ∷ []
-
--- of a text that is written to the buffer's front: refusal 3, or its place
-abbrev pub writtenAnswer : List ℕ → ℕ → Said
-writtenAnswer text room = orRefused [] true (length text) room (says 0 (1 ∷ 0 ∷ length text ∷ []))
-
--- of a value alone, behind the limit and the places: refusal 3, or the value's place, and the buffer
-abbrev pub valueAnswer : ℕ → List ℕ → ℕ → Said
-valueAnswer at raw room = orRefused [] true (length (writtenOf raw)) room (says 0 (valueAt at raw))
-
-abbrev pub valueBuffer : List ℕ → List ℕ → List ℕ
-valueBuffer raw out = afterwards [] true (writtenOf raw) out
+use Rattle.value.specs.Value.{valueAt, writtenOf}
 
 -- the token's range and the value's place
 abbrev pub trailerAt : Trailer → List ℕ

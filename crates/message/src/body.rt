@@ -1,15 +1,11 @@
 // The calls on a body: trailers, blocks, attribution.
-ghost use mathlib.Core.Bool.{true};
-ghost use mathlib.Core.List.{[]};
 ghost use mathlib.Core.Path.{_≡_};
-ghost use Prim.Native.Nat.{_-_, _≤_};
-ghost use lib.ListN.{length, take, drop};
-ghost use Rattle.rules.specs.Answers.{afterwards, blockStepSays, partOf, startSays, trailerFoundSays, trailerStepSays, valueFoundSays, viewOf, yesNoSays};
-ghost use Rattle.rules.specs.Trailer.{unfolded};
+ghost use lib.ListN.{length};
+ghost use Rattle.rules.specs.Answers.{blockStepSays, partOf, startSays, trailerFoundSays, trailerStepSays, viewOf, yesNoSays};
 ghost use Rattle.rules.specs.declared.Kind.{Kind};
-ghost use Rattle.message.specs.Body.{blockAnswer, findAnswer, findBuffer, questionAnswer, startAnswer, stepAnswer, stepBuffer, valueAnswer, valueBuffer, writtenAnswer};
-use block::walk::NextBlock;
-use block::walk::next_block_from;
+ghost use Rattle.message.specs.Body.{blockAnswer, findAnswer, findBuffer, questionAnswer, startAnswer, stepAnswer, stepBuffer};
+use block::NextBlock;
+use block::next_block_from;
 use rules::BlockCursor;
 use rules::BlockStep;
 use rules::Cursor;
@@ -24,45 +20,10 @@ use rules::TrailerStep;
 use rules::Value;
 use rules::ValueFound;
 use rules::YesNo;
-use text::white::trim;
-use trailer::value::is_folded;
-use trailer::value::unfold_into;
-use trailer::value::unfolded_len;
 use trailer::walk::NextTrailer;
+use value::read_value;
 use walk::find_named;
 use walk::next_of;
-
-// The unfolded value of a raw value that has several lines: written to the front of `out`, where there is room.
-fn unfold_value(value: &[u8], out: &mut [u8]) -> ValueFound
-    ensures { λ r. ⌜ valueFoundSays r ≡ writtenAnswer (unfolded (now (value .entry))) (length (now (out .entry))) ⌝ }
-    ensures { λ _. ⌜ now (out .exit) ≡ afterwards [] true (unfolded (now (value .entry))) (now (out .entry)) ⌝ }
-{
-    let needed = unfolded_len(value);
-    if out.len() < needed {
-        return ValueFound::Refused(Refusal::NoRoom(needed));
-    }
-    unfold_into(value, out);
-    ValueFound::At(Value::InBuffer(Part {
-        start: 0,
-        end: needed,
-    }))
-}
-
-// The value of the raw value from `from` up to `to`: a part of the body, or, unfolded, the front of `out`.
-fn read_value(body: &[u8], from: usize, to: usize, out: &mut [u8]) -> ValueFound
-    requires { ⌜ (from ≤ to) × (to ≤ length (now body)) ⌝ }
-    ensures { λ r. ⌜ valueFoundSays r ≡ valueAnswer from (take (to - from) (drop from (now (body .entry)))) (length (now (out .entry))) ⌝ }
-    ensures { λ _. ⌜ now (out .exit) ≡ valueBuffer (take (to - from) (drop from (now (body .entry)))) (now (out .entry)) ⌝ }
-{
-    let raw = &body[from..to];
-    if is_folded(raw) {
-        return unfold_value(raw, out);
-    }
-    let part = trim(raw);
-    let start = from + part.start;
-    let end = from + part.end;
-    ValueFound::At(Value::InInput(Part { start, end }))
-}
 
 // Where the trailer block of `body` starts; the body's length where it has none.
 pub fn trailer_block_start(body: &[u8]) -> StartFound
@@ -71,7 +32,7 @@ pub fn trailer_block_start(body: &[u8]) -> StartFound
     if body.len() > LIMIT {
         return StartFound::Refused(Refusal::TooLong);
     }
-    StartFound::At(block::paragraph::trailer_block_start(body))
+    StartFound::At(paragraph::trailer_block_start(body))
 }
 
 // The next trailer from the cursor on whose token is of the kind; the others are passed over, and write nothing.
@@ -233,7 +194,7 @@ pub fn find_trailer(body: &[u8], name: &[u8], out: &mut [u8]) -> TrailerFound
     if name.len() > LIMIT {
         return TrailerFound::Refused(Refusal::TooLong);
     }
-    let at = block::paragraph::trailer_block_start(body);
+    let at = paragraph::trailer_block_start(body);
     let NextTrailer::Trailer {
         start,
         token_end,

@@ -2,15 +2,11 @@
 pub mod body;
 pub mod decode;
 
-ghost use mathlib.Core.Bool.{true};
-ghost use mathlib.Core.List.{[]};
 ghost use mathlib.Core.Path.{_≡_};
 ghost use lib.ListN.{length};
-ghost use Rattle.rules.specs.Answers.{afterwards, valueFoundSays, walkFoundSays};
-ghost use Rattle.rules.specs.Summary.{pieces, spaced};
-ghost use Rattle.message.specs.Body.{writtenAnswer};
+ghost use Rattle.rules.specs.Answers.{valueFoundSays, walkFoundSays};
 ghost use Rattle.message.specs.Message.{summaryAnswer, summaryBuffer, walkAnswer};
-use block::paragraph::trailer_block_start;
+use paragraph::trailer_block_start;
 use rules::Cursor;
 use rules::LIMIT;
 use rules::Part;
@@ -19,9 +15,9 @@ use rules::Value;
 use rules::ValueFound;
 use rules::WalkFound;
 use summary::is_written;
-use summary::summarise_into;
-use summary::summary_len;
-use text::white::trim;
+use summary::summarise;
+use title::title_and_body;
+use white::trim;
 
 // The summary of a whole message, by the rule for a title. It is not always that of its title, since the body is read too.
 pub fn message_summary(message: &[u8], out: &mut [u8]) -> ValueFound
@@ -38,8 +34,8 @@ pub fn message_trailers(message: &[u8]) -> WalkFound
     if message.len() > LIMIT {
         return WalkFound::Refused(Refusal::TooLong);
     }
-    let title_end = decode::title_end(message);
-    let body_start = decode::body_start(message, title_end);
+    let places = title_and_body(message);
+    let body_start = places.body_start;
     let at = body_start + trailer_block_start(&message[body_start..]);
     WalkFound::From(Cursor { at })
 }
@@ -60,20 +56,4 @@ pub fn summary(title: &[u8], out: &mut [u8]) -> ValueFound
         return summarise(message, out);
     }
     ValueFound::At(Value::InInput(Part { start, end }))
-}
-
-// The summary of a message that is trimmed and has an LF left: written to the front of `out`, where there is room.
-fn summarise(message: &[u8], out: &mut [u8]) -> ValueFound
-    ensures { λ r. ⌜ valueFoundSays r ≡ writtenAnswer (spaced (pieces (now (message .entry)))) (length (now (out .entry))) ⌝ }
-    ensures { λ _. ⌜ now (out .exit) ≡ afterwards [] true (spaced (pieces (now (message .entry)))) (now (out .entry)) ⌝ }
-{
-    let needed = summary_len(message);
-    if out.len() < needed {
-        return ValueFound::Refused(Refusal::NoRoom(needed));
-    }
-    summarise_into(message, out, needed);
-    ValueFound::At(Value::InBuffer(Part {
-        start: 0,
-        end: needed,
-    }))
 }

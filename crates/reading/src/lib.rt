@@ -4,19 +4,18 @@ ghost use mathlib.Core.Path.{_≡_};
 ghost use Prim.Native.Nat.{_*_, _^_, _<_, _≤_};
 ghost use lib.ListN.{length};
 ghost use Rattle.reading.specs.Kinds.{forgives, kindOf, kindOfIndented};
-use block::paragraph::accepts_as_trailer_block;
-use block::paragraph::is_recognized_prefix;
-use block::paragraph::last_paragraph;
-use block::paragraph::trailer_block_start;
-use block::walk::NextBlock;
-use block::walk::next_block_from;
+use block::NextBlock;
+use block::next_block_from;
 use libc::STDOUT_FILENO;
-use message::decode::body_start;
-use message::decode::title_end;
+use paragraph::accepts_as_trailer_block;
+use paragraph::is_recognized_prefix;
+use paragraph::last_paragraph;
+use paragraph::trailer_block_start;
 use text::line::is_blank_line;
 use text::line::is_indented;
 use text::line::line_len;
 use text::line::trim_line_ending;
+use title::title_and_body;
 use trailer::line::TrailerLine;
 use trailer::line::parse_trailer_line;
 
@@ -86,9 +85,9 @@ fn is_forgiving(kind: LineKind) -> bool
 fn print_reading(message: &[u8])
     requires { ⌜ length (now message) ≤ 32768 ⌝ }
 {
-    let title_end = title_end(message);
-    let body_start = body_start(message, title_end);
-    print_title_and_body(title_end, body_start, message.len());
+    let places = title_and_body(message);
+    let body_start = places.body_start;
+    print_title_and_body(places.title_end, body_start, message.len());
     print_body(&message[body_start..]);
 }
 

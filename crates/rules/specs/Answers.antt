@@ -1,7 +1,7 @@
 -- The limit, the refusals and the answers: document 01, "The limit and the refusals".
 -- For every answer of the calls its number and its values, as document 01 gives them. An answer that is no refusal has the
 -- number 0 (not document 01's: a fill-in, so that every answer has one).
-use mathlib.Core.Bool.{Bool, not, _&&_}
+use mathlib.Core.Bool.{Bool, true, not, _&&_}
 use mathlib.Core.List.{List, [], _∷_, _++_}
 use Prim.Native.Nat.{ℕ, _-_}
 use lib.Dec.{leb, ltb}
@@ -50,6 +50,10 @@ afterwards inputs fit written buffer =
     else if not fit then buffer
     else if ltb (length buffer) (length written) then buffer
     else written ++ drop (length written) buffer
+
+-- of a text that is written to the buffer's front, behind the limit and the places: refusal 3, or its place there
+abbrev pub writtenAnswer : List ℕ → ℕ → Said
+writtenAnswer text room = orRefused [] true (length text) room (says 0 (1 ∷ 0 ∷ length text ∷ []))
 
 -- "a position [..] is past the input"; "a range end is past the input, or a range starts after its end"
 abbrev pub placeFits : ℕ → List ℕ → Bool

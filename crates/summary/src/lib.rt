@@ -1,16 +1,21 @@
 // Summaries: the loops of the original's `summary`, for a message that is trimmed. There is no heap: the length is found first,
 // then the answer is written to the buffer's front.
-ghost use mathlib.Core.Bool.{not};
-ghost use mathlib.Core.List.{_++_};
+ghost use mathlib.Core.Bool.{not, true};
+ghost use mathlib.Core.List.{[], _++_};
 ghost use mathlib.Core.Path.{_≡_};
 ghost use Prim.Native.Nat.{_+_, _-_, _≤_};
 ghost use lib.Dec.{eqb};
 ghost use lib.ListN.{length, take, drop};
+ghost use Rattle.rules.specs.Answers.{afterwards, valueFoundSays, writtenAnswer};
 ghost use Rattle.rules.specs.Lists.{run};
 ghost use Rattle.rules.specs.Summary.{dropBlanks, folded, pieces, spaced, many};
 ghost use Rattle.summary.specs.Put.{put};
+use rules::Part;
+use rules::Refusal;
+use rules::Value;
+use rules::ValueFound;
 use text::line::is_ascii_whitespace;
-use text::white::trim_end;
+use white::trim_end;
 
 // The place of the first such byte from `at` on; the end where there is none.
 fn find_byte(s: &[u8], at: usize, byte: u8) -> usize
@@ -50,7 +55,7 @@ pub fn is_written(message: &[u8]) -> bool
 
 // The length of the summary of a message that is trimmed. The pieces before `at` have `len` bytes folded, of which `kept` stay
 // where the end is trimmed; the next piece is from `at` to `pos`.
-pub fn summary_len(message: &[u8]) -> usize
+fn summary_len(message: &[u8]) -> usize
     ensures { λ r. ⌜ r ≡ length (spaced (pieces (now (message .entry)))) ⌝ }
 {
     let mut len = 0;
@@ -106,7 +111,7 @@ fn fold_to(piece: &[u8], out: &mut [u8], at: usize, end: usize) -> usize
 }
 
 // Writes the summary of a message that is trimmed to the front of `out`; `n` is its length.
-pub fn summarise_into(message: &[u8], out: &mut [u8], n: usize)
+fn summarise_into(message: &[u8], out: &mut [u8], n: usize)
     requires { ⌜ n ≡ length (spaced (pieces (now message))) ⌝ }
     requires { ⌜ n ≤ length (now out) ⌝ }
     ensures { λ _. ⌜ now (out .exit) ≡ spaced (pieces (now (message .entry))) ++ drop (length (spaced (pieces (now (message .entry))))) (now (out .entry)) ⌝ }
@@ -123,4 +128,20 @@ pub fn summarise_into(message: &[u8], out: &mut [u8], n: usize)
         pos = find_byte(message, at, b'\n');
     }
     copy_to(&message[at..], out, len, n);
+}
+
+// The summary of a message that is trimmed and has an LF left: written to the front of `out`, where there is room.
+pub fn summarise(message: &[u8], out: &mut [u8]) -> ValueFound
+    ensures { λ r. ⌜ valueFoundSays r ≡ writtenAnswer (spaced (pieces (now (message .entry)))) (length (now (out .entry))) ⌝ }
+    ensures { λ _. ⌜ now (out .exit) ≡ afterwards [] true (spaced (pieces (now (message .entry)))) (now (out .entry)) ⌝ }
+{
+    let needed = summary_len(message);
+    if out.len() < needed {
+        return ValueFound::Refused(Refusal::NoRoom(needed));
+    }
+    summarise_into(message, out, needed);
+    ValueFound::At(Value::InBuffer(Part {
+        start: 0,
+        end: needed,
+    }))
 }

@@ -1,5 +1,3 @@
 -- Laws of lines, of parts and of white space, for those who call this crate.
 pub mod Lines
-pub mod Parts
-pub mod Forms
-pub mod Scan
+pub mod ByLines

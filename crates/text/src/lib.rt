@@ -1,4 +1,3 @@
-// What the original takes from std and bstr: lines, white space, and fixed byte strings.
+// What the original takes from std and bstr: lines and fixed byte strings.
 pub mod fixed;
 pub mod line;
-pub mod white;

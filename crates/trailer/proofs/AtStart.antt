@@ -14,7 +14,7 @@ use Rattle.rules.proofs.Lists.{run-shorter}
 use Rattle.rules.proofs.Trailer.{trailer-line}
 use Rattle.text.specs.Lines.{firstLength}
 use Rattle.text.proofs.Lines.{first-line, first-within}
-use Rattle.text.proofs.Parts.{rest}
+use Rattle.rules.proofs.Parts.{rest}
 use Rattle.trailer.specs.Line.{atStart, parsed}
 use Rattle.trailer.specs.declared.line.TrailerAtStart.{TrailerAtStart}
 use Rattle.trailer.specs.declared.line.TrailerLine.{TrailerLine}

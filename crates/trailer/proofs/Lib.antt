@@ -1,10 +1,5 @@
--- Laws of trailer lines, of the walk's steps and of unfolding, for this crate and those who call it.
+-- Laws of trailer lines and of the walk's steps, for this crate and those who call it.
 pub mod Runs
 pub mod Parsed
-pub mod ByLines
 pub mod AtStart
 pub mod Steps
-pub mod Joined
-pub mod Unfolding
-pub mod Pushed
-pub mod Written

@@ -12,13 +12,13 @@ use Rattle.rules.specs.Lists.{join, run}
 use Rattle.rules.specs.Trailer.{Trailer, trailer, trailerLine, tokenIn, gapIn, placeOf, endOf, tokenOf, rawValueAt, walk, walkFrom}
 use Rattle.rules.proofs.Walk.{walk-ends}
 use Rattle.text.specs.Lines.{firstLength}
-use Rattle.text.proofs.Parts.{rest}
+use Rattle.rules.proofs.Parts.{rest}
 use Rattle.trailer.specs.Line.{atStart}
 use Rattle.trailer.specs.Walk.{nextOf}
 use Rattle.trailer.specs.declared.line.TrailerAtStart.{TrailerAtStart}
 use Rattle.trailer.specs.declared.walk.NextTrailer.{NextTrailer}
 use Rattle.trailer.proofs.AtStart.{start-within}
-use Rattle.trailer.proofs.ByLines.{line-then, line-length}
+use Rattle.text.proofs.ByLines.{line-then, line-length}
 
 -- a trailer at `at`, by its places counted from its start; another answer where none is there
 abbrev nextAt : ℕ → TrailerAtStart → NextTrailer → NextTrailer

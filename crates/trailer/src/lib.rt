@@ -1,4 +1,3 @@
-// A trailer line, the trailer at a line's start, its value, and the trailer walk: the first half of the original's body.rs.
+// A trailer line, the trailer at a line's start, and the trailer walk: the first half of the original's body.rs.
 pub mod line;
-pub mod value;
 pub mod walk;

@@ -2,9 +2,9 @@
 use mathlib.Core.Path.{sym, ap, _∙_}
 use borrow.Author.Tests.{lt-ltb}
 use borrow.Author.Needs.{needs}
-use Rattle.exports.specs.Numbers.{questionOf}
-use Rattle.exports.specs.declared.Asked.{Asked}
-use Rattle.exports.proofs.Crossing.{code-crosses, result-crosses}
+use Rattle.exports.specs.ByKind.{questionOf}
+use Rattle.numbers.specs.declared.Asked.{Asked}
+use Rattle.numbers.proofs.Crossing.{code-crosses, result-crosses}
 use Rattle.exports.proofs.sluicepod_is_of_kind.Statement.{statement}
 use Rattle.exports.proofs.sluicepod_is_of_kind.Tie as tie
 

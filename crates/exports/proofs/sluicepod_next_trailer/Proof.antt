@@ -3,9 +3,9 @@ use mathlib.Core.Path.{sym, ap, _∙_}
 use borrow.Author.Tests.{lt-ltb, le-ltb}
 use borrow.Author.Needs.{needs}
 use lib.ListN.{length}
-use Rattle.exports.specs.Numbers.{stepLeaves, stepOf}
-use Rattle.exports.specs.declared.Asked.{Asked}
-use Rattle.exports.proofs.Crossing.{code-crosses, result-crosses}
+use Rattle.exports.specs.ByKind.{stepLeaves, stepOf}
+use Rattle.numbers.specs.declared.Asked.{Asked}
+use Rattle.numbers.proofs.Crossing.{code-crosses, result-crosses}
 use Rattle.exports.proofs.sluicepod_next_trailer.Statement.{statement}
 use Rattle.exports.proofs.sluicepod_next_trailer.Tie as tie
 

@@ -2,7 +2,7 @@
 use mathlib.Core.Path.{_∙_}
 use borrow.Author.Tests.{lt-ltb, le-ltb}
 use borrow.Author.Needs.{needs}
-use Rattle.exports.proofs.Crossing.{code-crosses, result-crosses}
+use Rattle.numbers.proofs.Crossing.{code-crosses, result-crosses}
 use Rattle.exports.proofs.sluicepod_summary.Statement.{statement}
 use Rattle.exports.proofs.sluicepod_summary.Tie as tie
 

@@ -10,7 +10,7 @@ use Rattle.rules.proofs.Paragraph.{start-within}
 use Rattle.rules.proofs.Title.{body-fits}
 use Rattle.rules.specs.Paragraph.{blockStart}
 use Rattle.rules.specs.Title.{bodyStart, body}
-use Rattle.text.proofs.Parts.{rest}
+use Rattle.rules.proofs.Parts.{rest}
 use Rattle.message.specs.Message.{walkStart}
 use Rattle.message.proofs.message_trailers.Statement.{statement}
 use Rattle.message.proofs.message_trailers.Tie as tie
@@ -25,17 +25,14 @@ walk-fits m = omega (arith, body-fits m, start-within (body m), length-drop (bod
 returns : tie.Need-returns
 returns c = simp (lt-ltb _ _ (c .if1 .taken))
 
-title-end-requires : tie.Need-title-end-requires
-title-end-requires c κs = search needs
-
-body-start-requires : tie.Need-body-start-requires
-body-start-requires c κs = search needs
+title-and-body-requires : tie.Need-title-and-body-requires
+title-and-body-requires c κs = search needs
 
 sub-trailer-block-start : tie.Need-sub-trailer-block-start
-sub-trailer-block-start c = omega (arith, body-fits (c .before .before .before .before .args .message .now), c .body-start .ensures)
+sub-trailer-block-start c = omega (arith, body-fits (c .before .before .before .args .message .now), c .title-and-body .ensures)
 
 part-trailer-block-start-start : tie.Need-part-trailer-block-start-start
-part-trailer-block-start-start c = omega (arith, body-fits (c .before .before .before .before .args .message .now), c .body-start .ensures)
+part-trailer-block-start-start c = omega (arith, body-fits (c .before .before .before .args .message .now), c .title-and-body .ensures)
 
 part-trailer-block-start-end : tie.Need-part-trailer-block-start-end
 part-trailer-block-start-end c = search needs
@@ -44,18 +41,17 @@ trailer-block-start-requires : tie.Need-trailer-block-start-requires
 trailer-block-start-requires c κs = search needs
 
 add-at : tie.Need-add-at
-add-at c = omega (arith, walk-at (c .before .before .before .before .before .before .args .message .now) (c .before .before .body-start .result) (c .trailer-block-start .result) (c .before .before .body-start .ensures) (c .trailer-block-start .ensures), walk-fits (c .before .before .before .before .before .before .args .message .now))
+add-at c = omega (arith, walk-at (c .before .before .before .before .before .args .message .now) (c .before .before .title-and-body .result .«body_start») (c .trailer-block-start .result) (c .before .before .title-and-body .ensures .1) (c .trailer-block-start .ensures), walk-fits (c .before .before .before .before .before .args .message .now))
 
 returns-2 : tie.Need-returns-2
-returns-2 c = simp (le-ltb _ _ (c .before .before .before .before .if1 .left), walk-at (c .before .before .before .before .before .before .args .message .now) (c .before .before .body-start .result) (c .trailer-block-start .result) (c .before .before .body-start .ensures) (c .trailer-block-start .ensures))
+returns-2 c = simp (le-ltb _ _ (c .before .before .before .if1 .left), walk-at (c .before .before .before .before .before .args .message .now) (c .before .before .title-and-body .result .«body_start») (c .trailer-block-start .result) (c .before .before .title-and-body .ensures .1) (c .trailer-block-start .ensures))
 
 pub message-trailers-spec : {M : Type 1} → statement M
 message-trailers-spec =
     tie.close
     (tie.spec
     returns
-    title-end-requires
-    body-start-requires
+    title-and-body-requires
     sub-trailer-block-start
     part-trailer-block-start-start
     part-trailer-block-start-end

@@ -6,7 +6,7 @@ use borrow.Author.Tests.{lt-ltb, le-ltb}
 use lib.ListN.{length}
 use Rattle.rules.proofs.White.{trim-fits}
 use Rattle.rules.specs.Answers.{limit}
-use Rattle.text.proofs.Parts.{kept-part}
+use Rattle.rules.proofs.Parts.{kept-part}
 use Rattle.message.proofs.Calls.{summary-folded, summary-left, summary-part, summary-keeps}
 use Rattle.message.proofs.summary.Statement.{statement}
 use Rattle.message.proofs.summary.Tie as tie

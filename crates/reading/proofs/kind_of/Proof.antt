@@ -2,7 +2,7 @@
 use mathlib.Core.Path.{sym, _∙_}
 use borrow.Author.Needs.{needs}
 use borrow.Author.Tests.{not-true, not-false}
-use Rattle.block.proofs.Scan.{told}
+use Rattle.paragraph.proofs.Scanned.{told}
 use Rattle.reading.proofs.kind_of.Statement.{statement}
 use Rattle.reading.proofs.kind_of.Tie as tie
 

@@ -6,7 +6,7 @@ use native.Mathlib.Omega.{arith}
 use borrow.Author.Needs.{needs}
 use lib.ListN.{length}
 use Rattle.block.specs.Step.{nextBlock}
-use Rattle.block.specs.declared.walk.NextBlock.{NextBlock}
+use Rattle.block.specs.declared.NextBlock.{NextBlock}
 use Rattle.rules.proofs.Blocks.{block-moves}
 use Rattle.rules.specs.Division.{Block, block, blocksFrom}
 use Rattle.reading.proofs.print_blocks.Statement.{statement}

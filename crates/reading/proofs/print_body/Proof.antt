@@ -3,7 +3,7 @@ use Prim.Native.Nat.{_≤_}
 use native.Mathlib.Omega.{arith}
 use borrow.Author.Needs.{needs}
 use lib.ListN.{length}
-use Rattle.block.proofs.Scan.{paragraph-within, weight}
+use Rattle.paragraph.proofs.Scanned.{paragraph-within, weight}
 use Rattle.rules.proofs.Paragraph.{start-within}
 use Rattle.reading.proofs.print_body.Statement.{statement}
 use Rattle.reading.proofs.print_body.Tie as tie

@@ -3,7 +3,7 @@ use Prim.Native.Nat.{_+_, _-_, _≤_, _<_}
 use native.Mathlib.Omega.{arith}
 use borrow.Author.Needs.{needs}
 use lib.ListN.{length}
-use Rattle.trailer.proofs.ByLines.{line-ahead}
+use Rattle.text.proofs.ByLines.{line-ahead}
 use Rattle.reading.proofs.print_paragraph.Statement.{statement}
 use Rattle.reading.proofs.print_paragraph.Tie as tie
 

@@ -6,19 +6,16 @@ use Rattle.rules.proofs.Title.{body-fits}
 use Rattle.reading.proofs.print_reading.Statement.{statement}
 use Rattle.reading.proofs.print_reading.Tie as tie
 
-title-end-requires : tie.Need-title-end-requires
-title-end-requires c κs = search needs
-
-body-start-requires : tie.Need-body-start-requires
-body-start-requires c κs = search needs
+title-and-body-requires : tie.Need-title-and-body-requires
+title-and-body-requires c κs = search needs
 
 print-title-and-body-requires : tie.Need-print-title-and-body-requires
 print-title-and-body-requires c κs = search needs
 
 -- the body starts in the message
 starts : (c : tie.After-print-title-and-body) → let b = c .before in
-    b .body-start .result ≤ length (b .before .before .before .args .message .now)
-starts c = let b = c .before in rw (b .body-start .ensures) (body-fits (b .before .before .before .args .message .now))
+    b .title-and-body .result .«body_start» ≤ length (b .before .before .args .message .now)
+starts c = let b = c .before in rw (b .title-and-body .ensures .1) (body-fits (b .before .before .args .message .now))
 
 sub-print-body : tie.Need-sub-print-body
 sub-print-body c = starts c
@@ -39,8 +36,7 @@ pub print-reading-spec : {M : Type 1} → statement M
 print-reading-spec =
     tie.close
     (tie.spec
-    title-end-requires
-    body-start-requires
+    title-and-body-requires
     print-title-and-body-requires
     sub-print-body
     part-print-body-start

@@ -11,7 +11,7 @@ use lib.Seq.{take-nil}
 use Rattle.rules.specs.Lines.{inner}
 use Rattle.rules.specs.Lists.{run}
 use Rattle.rules.specs.Summary.{folded, pieces, spaced}
-use Rattle.text.proofs.Parts.{rest}
+use Rattle.rules.proofs.Parts.{rest}
 use Rattle.summary.specs.Put.{put}
 use Rattle.summary.proofs.Pieces.{piece, piece-at, last-piece-at}
 use Rattle.summary.proofs.Put.{put-none, put-both}

@@ -26,24 +26,20 @@ some-body m n =
 returns : tie.Need-returns
 returns c = rw (lt-ltb limit _ (c .if1 .taken))
 
-title-end-requires : tie.Need-title-end-requires
-title-end-requires c κs = search needs
-
-body-start-requires : tie.Need-body-start-requires
-body-start-requires c κs = search needs
+title-and-body-requires : tie.Need-title-and-body-requires
+title-and-body-requires c κs = search needs
 
 returns-2 : tie.Need-returns-2
 returns-2 c =
-    let m = c .before .before .before .before .before .args .message .now in
-    let s = c .before .body-start .ensures in
-    rw (le-ltb limit (length m) (c .before .before .before .if1 .left), no-body m (sym s ∙ c .if2 .taken), c .before .before .title-end .ensures)
+    let m = c .before .before .before .before .args .message .now in
+    let e = c .before .title-and-body .ensures in
+    rw (le-ltb limit (length m) (c .before .before .if1 .left), no-body m (sym (e .1) ∙ c .if2 .taken), e .0)
 
 returns-3 : tie.Need-returns-3
 returns-3 c =
-    let m = c .before .before .before .before .before .args .message .now in
-    let s = c .before .body-start .ensures in
-    rw (le-ltb limit (length m) (c .before .before .before .if1 .left), some-body m (λ e. c .if2 .left (s ∙ e)), s, c .before .before .title-end .ensures)
+    let m = c .before .before .before .before .args .message .now in
+    let e = c .before .title-and-body .ensures in
+    rw (le-ltb limit (length m) (c .before .before .if1 .left), some-body m (λ p. c .if2 .left (e .1 ∙ p)), e .0, e .1)
 
 pub message-title-and-body-spec : {M : Type 1} → statement M
-message-title-and-body-spec =
-    tie.close (tie.spec returns title-end-requires body-start-requires returns-2 returns-3)
+message-title-and-body-spec = tie.close (tie.spec returns title-and-body-requires returns-2 returns-3)

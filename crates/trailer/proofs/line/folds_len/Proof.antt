@@ -11,7 +11,7 @@ use lib.ListN.{length, take, drop, drop-of-length-le, length-append}
 use Rattle.rules.specs.Lines.{Line, folds, lines}
 use Rattle.rules.specs.Lists.{if_then_else_, join, run}
 use Rattle.text.specs.Lines.{firstLength}
-use Rattle.trailer.proofs.ByLines.{line-ahead, line-then, line-length}
+use Rattle.text.proofs.ByLines.{line-ahead, line-then, line-length}
 use Rattle.trailer.proofs.line.folds_len.Statement.{statement}
 use Rattle.trailer.proofs.line.folds_len.Tie as tie
 

@@ -10,7 +10,7 @@ use Rattle.rules.specs.Trailer.{walkFrom}
 use Rattle.trailer.specs.Line.{atStart}
 use Rattle.trailer.specs.Walk.{nextOf}
 use Rattle.trailer.specs.declared.line.TrailerAtStart.{TrailerAtStart}
-use Rattle.trailer.proofs.ByLines.{line-ahead}
+use Rattle.text.proofs.ByLines.{line-ahead}
 use Rattle.trailer.proofs.Steps.{next-skips, next-found, found-within, next-ends}
 use Rattle.trailer.proofs.walk.next_trailer_from.Statement.{statement}
 use Rattle.trailer.proofs.walk.next_trailer_from.Tie as tie

@@ -1,0 +1,94 @@
+-- `block::message_len` meets its contract. The invariant: the message from the front on is what is passed and the message
+-- from `len` on. Assumes nothing.
+use mathlib.Core.Path.{_≡_, sym, _∙_}
+use Prim.Native.Nat.{_+_, _-_, _≤_}
+use native.Mathlib.Omega.{arith}
+use borrow.Author.Needs.{needs}
+use lib.ListN.{length, drop, drop-of-length-le}
+use Rattle.text.proofs.ByLines.{line-some, line-within}
+use Rattle.block.specs.Step.{messageLength}
+use Rattle.block.proofs.Step.{message-ends, message-line}
+use Rattle.block.proofs.message_len.Statement.{statement}
+use Rattle.block.proofs.message_len.Tie as tie
+
+abbrev Inv-loop : tie.InvT-loop
+Inv-loop cursor len₀ len = (len ≤ length cursor) × (messageLength cursor ≡ len + messageLength (drop len cursor))
+
+abbrev μ-loop : tie.MeasureT-loop
+μ-loop cursor len₀ len = length cursor - len
+
+loop-holds : tie.Need-loop-holds Inv-loop μ-loop
+loop-holds c = search needs
+
+sub-rest : tie.Need-sub-rest Inv-loop μ-loop
+sub-rest c = search needs
+
+part-rest-start : tie.Need-part-rest-start Inv-loop μ-loop
+part-rest-start c = search needs
+
+part-rest-end : tie.Need-part-rest-end Inv-loop μ-loop
+part-rest-end c = search needs
+
+trailer-at-start-requires : tie.Need-trailer-at-start-requires Inv-loop μ-loop
+trailer-at-start-requires c κs = search needs
+
+enum-told : tie.Need-enum-told Inv-loop μ-loop
+enum-told c = search needs
+
+returns : tie.Need-returns Inv-loop μ-loop
+returns c =
+    let l = c .before .before .before .before .before in
+    let found = sym (c .before .before .trailer-at-start .ensures) ∙ c .enum-told .given .1 in
+    omega (arith, message-ends (l .before .before .args .cursor .now) (l .loop .len) found)
+
+enum-told-2 : tie.Need-enum-told-2 Inv-loop μ-loop
+enum-told-2 c = search needs
+
+line-len-requires : tie.Need-line-len-requires Inv-loop μ-loop
+line-len-requires c κs = search needs
+
+add-len : tie.Need-add-len Inv-loop μ-loop
+add-len c =
+    let l = c .before .before .before .before .before .before in
+    omega (arith, line-within (l .before .before .args .cursor .now) (l .loop .len) _ (omega arith) (c .line-len .ensures))
+
+loop-less : tie.Need-loop-less Inv-loop μ-loop
+loop-less c =
+    let l = c .before .before .before .before .before .before in
+    let s = l .before .before .args .cursor .now in
+    let e = c .line-len .ensures in
+    omega (arith, line-some s (l .loop .len) _ (omega arith) e, line-within s (l .loop .len) _ (omega arith) e)
+
+loop-again : tie.Need-loop-again Inv-loop μ-loop
+loop-again c =
+    let l = c .before .before .before .before .before .before in
+    let s = l .before .before .args .cursor .now in
+    let e = c .line-len .ensures in
+    let none = sym (c .before .before .before .trailer-at-start .ensures) ∙ c .before .enum-told2 .given .1 in
+    (line-within s (l .loop .len) _ (omega arith) e, omega (arith, message-line s (l .loop .len) _ (omega arith) none e))
+
+returns-2 : tie.Need-returns-2 Inv-loop μ-loop
+returns-2 c =
+    let cursor = c .before .before .before .args .cursor .now in
+    let none = drop-of-length-le cursor (c .loop-test .left) in
+    omega (arith, rw none at (c .before .loop .inv .1))
+
+pub message-len-spec : {M : Type 1} → statement M
+message-len-spec =
+    tie.close
+    (tie.spec
+    Inv-loop
+    μ-loop
+    loop-holds
+    sub-rest
+    part-rest-start
+    part-rest-end
+    trailer-at-start-requires
+    enum-told
+    returns
+    enum-told-2
+    line-len-requires
+    add-len
+    loop-less
+    loop-again
+    returns-2)

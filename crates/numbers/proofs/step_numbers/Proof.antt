@@ -1,0 +1,50 @@
+-- `numbers::step_numbers` meets its contract. Assumes nothing.
+use mathlib.Core.Path.{sym}
+use borrow.Author.Needs.{needs}
+use Rattle.numbers.proofs.step_numbers.Statement.{statement}
+use Rattle.numbers.proofs.step_numbers.Tie as tie
+
+enum-known-answer : tie.Need-enum-known-answer
+enum-known-answer c = search needs
+
+place-of-requires : tie.Need-place-of-requires
+place-of-requires c κs = search needs
+
+said-requires : tie.Need-said-requires
+said-requires c κs = search needs
+
+enum-known-answer-2 : tie.Need-enum-known-answer-2
+enum-known-answer-2 c = search needs
+
+said-requires-2 : tie.Need-said-requires-2
+said-requires-2 c κs = search needs
+
+enum-known-answer-3 : tie.Need-enum-known-answer-3
+enum-known-answer-3 c = search needs
+
+refusal-numbers-requires : tie.Need-refusal-numbers-requires
+refusal-numbers-requires c κs = search needs
+
+returns : tie.Need-returns
+returns c = rw (c .before .before .before .answer .given .1, sym (c .before .place-of .ensures)) (c .said .ensures)
+
+returns-2 : tie.Need-returns-2
+returns-2 c = rw (c .before .before .answer2 .given .1) (c .said2 .ensures)
+
+returns-3 : tie.Need-returns-3
+returns-3 c = rw (c .before .before .answer3 .given .1) (c .refusal-numbers .ensures)
+
+pub step-numbers-spec : {M : Type 1} → statement M
+step-numbers-spec =
+    tie.close
+    (tie.spec
+    enum-known-answer
+    place-of-requires
+    said-requires
+    enum-known-answer-2
+    said-requires-2
+    enum-known-answer-3
+    refusal-numbers-requires
+    returns
+    returns-2
+    returns-3)

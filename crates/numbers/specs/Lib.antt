@@ -1,0 +1,2 @@
+-- How answers cross to C and Rust.
+pub mod Numbers

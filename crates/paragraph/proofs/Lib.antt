@@ -1,0 +1,3 @@
+-- Laws of the backward scan.
+pub mod Scanned
+pub mod Upward

@@ -1,0 +1,153 @@
+-- The lines of a body from its end upwards, as `line_start` finds them: what is known of the lines from a place on (At), and what
+-- one line more above makes of it. Assumes nothing.
+use mathlib.Core.Bool.{Bool, true, false}
+use mathlib.Core.List.{List, [], _∷_, _++_, append-assoc, append-nil}
+use mathlib.Core.Path.{_≡_, refl, sym, ap, _∙_}
+use Prim.Native.Nat.{ℕ, zero, suc, _+_, _-_, _≤_, _<_}
+use native.Mathlib.Omega.{arith}
+use lib.Dec.{T}
+use lib.ListN.{length, take, drop, length-append, length-drop}
+use lib.Seq.{drop-at, drop-length, length-take-le, take-add, take-length}
+use Rattle.rules.specs.Bytes.{blankByte}
+use Rattle.rules.specs.Lines.{Line, lines, text}
+use Rattle.rules.specs.Lists.{all, join}
+use Rattle.rules.specs.Paragraph.{solid, Body, put, parse}
+use Rattle.rules.proofs.Lines.{join-lines, lines-from, text-ending}
+use Rattle.rules.proofs.Lists.{cut-unique}
+use Rattle.text.specs.Lines.{behindLF, lineStart}
+use Rattle.text.proofs.Lines.{behind-le, last-line, line-start-before, line-start-starts, blank-all}
+use Rattle.paragraph.specs.declared.Scan.{Scan}
+use Rattle.paragraph.specs.Scan.{counts, counted, scanned, paragraph, lastParagraph, textEnd, endAbove}
+use Rattle.paragraph.proofs.Scanned.{Open, open-put, blank-put, counted-put, closed, unclosed, drop-last, text-end}
+
+-- `&s[start..end]`
+abbrev pub part : List ℕ → ℕ → ℕ → List ℕ
+part s start end = take (end - start) (drop start s)
+
+part-is : (s : List ℕ) (start end : ℕ) → start ≤ end → end ≤ length s → drop start (take end s) ≡ part s start end
+part-is s start end h l =
+    let sum : end ≡ start + (end - start) = omega arith in
+    ap (λ (n : ℕ). drop start (take n s)) sum ∙ ap (drop start) (take-add start (end - start) s)
+    ∙ drop-at (take start s) (part s start end) start (length-take-le start s (omega arith))
+
+-- ---- the line that ends at a place
+
+-- a line starts at `end`, or the body ends there
+abbrev Cut : List ℕ → ℕ → Type 0
+Cut body end = lines body ≡ lines (take end body) ++ lines (drop end body)
+
+module _ (body : List ℕ) (start end : ℕ) (s : start ≡ lineStart body end) where
+  pub start-le : start ≤ end
+  start-le = omega (arith, behind-le body (end - 1))
+
+  pub start-before : 0 < end → start < end
+  start-before z = omega (arith, line-start-before body end z)
+
+module _ (body : List ℕ) (start end : ℕ) (s : start ≡ lineStart body end) (h : end ≤ length body) where
+  within : start ≤ length body
+  within = omega (arith, start-le body start end s)
+
+  sizes : (length (take start body) ≡ start) × (length (part body start end) ≡ end - start)
+  sizes = (length-take-le start body within, length-take-le (end - start) (drop start body) (omega (arith, length-drop start body)))
+
+  cut-above : Cut body start
+  cut-above = rw s (lines-from (lineStart body end) body (line-start-starts body end h))
+
+  module _ (z : 0 < end) where
+    last-part : lines (take end body) ≡ lines (take start body) ++ part body start end ∷ []
+    last-part =
+        rw s (last-line body end z h ∙ ap (λ (l : Line). lines (take (lineStart body end) body) ++ l ∷ [])
+        (part-is body (lineStart body end) end (start-le body (lineStart body end) end refl) h))
+
+    line-size : end ≡ length (join (lines (take start body))) + length (part body start end)
+    line-size = rw join-lines (omega (arith, sizes .0, sizes .1, start-le body start end s))
+
+    lines-above : Cut body end → lines body ≡ lines (take start body) ++ (part body start end ∷ lines (drop end body))
+    lines-above e = e ∙ rw (last-part, append-assoc)
+
+    line-above : Cut body end → lines (drop start body) ≡ part body start end ∷ lines (drop end body)
+    line-above e =
+        let us : List Line = lines (take start body) in
+        cut-unique us (lines (drop start body)) us (part body start end ∷ lines (drop end body)) refl (sym cut-above ∙ lines-above e) .1
+
+-- ---- where its text ends
+
+module _ (body : List ℕ) (start end : ℕ) (s : start ≡ lineStart body end) (h : end ≤ length body) where
+  pub text-end-within : start + length (text (part body start end)) ≤ end
+  text-end-within =
+      let (e, w, q) = text-ending (part body start end) in
+      omega (arith, start-le body start end s, sizes body start end s h .1, length-append (text (part body start end)) e, ap length q)
+
+  text-end-is : start + length (text (part body start end)) ≡ textEnd (lines (take end body))
+  unfolding behindLF text
+  text-end-is = by end s h
+    where
+      by : (k : ℕ) → start ≡ lineStart body k → k ≤ length body
+          → start + length (text (part body start k)) ≡ textEnd (lines (take k body))
+      by zero e l = rw e
+      by (suc n) e l =
+          rw (last-part body start (suc n) e l (omega arith), text-end, join-lines, sizes body start (suc n) e l .0)
+
+  pub end-above-is : (k : ℕ) → end ≡ lineStart body k → k ≤ length body
+      → start + length (text (part body start end)) ≡ endAbove (lines (take k body))
+  unfolding behindLF
+  end-above-is zero e l = text-end-is ∙ rw e
+  end-above-is (suc n) e l = text-end-is ∙ rw (last-part body end (suc n) e l (omega arith), drop-last)
+
+-- ---- the scan at a line's start
+
+-- the lines from `end` on have been seen, and counted so
+pub record At (body : List ℕ) (end : ℕ) (scan : Scan) : Type 0 where
+  pub inside : end ≤ length body
+  pub cut : Cut body end
+  pub below : Open (parse (lines (drop end body)))
+  pub seen : scan ≡ counted (parse (lines (drop end body)))
+
+pub at-end : (body : List ℕ) → At body (length body) (counts false false 0 0 0)
+at-end body =
+    let none : drop (length body) body ≡ [] = drop-length body in
+    record { inside = omega arith; cut = rw (none, take-length, append-nil); below = rw none tt; seen = rw none }
+
+module _ (body : List ℕ) (start end : ℕ) (s : start ≡ lineStart body end) (z : 0 < end) (scan : Scan) (a : At body end scan) where
+  abbrev line : Line
+  line = part body start end
+
+  abbrev tree : Body
+  tree = parse (lines (drop end body))
+
+  next-tree : (b : Bool) → b ≡ all blankByte line → parse (lines (drop start body)) ≡ put b line tree
+  next-tree b e =
+      ap parse (line-above body start end s (a .inside) z (a .cut)) ∙ ap (λ (x : Bool). put x line tree) (blank-all line ∙ sym e)
+
+  next-at : (next : Scan) (t : Body) → parse (lines (drop start body)) ≡ t → Open t → next ≡ counted t → At body start next
+  next-at next t e o n =
+      record {
+        inside = within body start end s (a .inside);
+        cut = cut-above body start end s (a .inside);
+        below = rw e o;
+        seen = rw e n;
+      }
+
+  -- one line more that is not blank
+  pub at-solid : (next : Scan) → false ≡ all blankByte line → next ≡ scanned line scan → At body start next
+  at-solid next e n =
+      let solid-line : T (solid line) = rw (blank-all line, ← e) tt in
+      next-at next (put false line tree) (next-tree false e) (open-put line tree (a .below))
+      (n ∙ ap (scanned line) (a .seen) ∙ sym (counted-put line tree solid-line (a .below)))
+
+  -- one that is blank, below the paragraph
+  pub at-blank : true ≡ all blankByte line → scan .«saw_non_blank_line» ≡ false → At body start scan
+  at-blank e n =
+      let (o, q) = blank-put line tree (a .below) (rw (a .seen) at n) in
+      next-at scan (put true line tree) (next-tree true e) o (a .seen ∙ sym q)
+
+  -- and one above it
+  pub at-paragraph : true ≡ all blankByte line → scan .«saw_non_blank_line» ≡ true → lastParagraph (parse (lines body)) ≡ paragraph end scan
+  at-paragraph e n =
+      rw (lines-above body start end s (a .inside) z (a .cut), a .seen)
+      (closed end (lines (take start body)) (lines (drop end body)) line (line-size body start end s (a .inside) z)
+      (a .below) (rw (a .seen) at n) (rw (blank-all line, ← e) tt))
+
+-- no line is left above
+pub at-top : (body : List ℕ) (scan : Scan) → At body 0 scan → lastParagraph (parse (lines body)) ≡ paragraph 0 scan
+at-top body scan a = unclosed (parse (lines body)) (a .below) ∙ ap (paragraph 0) (sym (a .seen))

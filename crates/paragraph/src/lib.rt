@@ -1,0 +1,136 @@
+// The last paragraph of a body, and where its trailer block starts.
+ghost use mathlib.Core.Path.{_≡_};
+ghost use Prim.Native.Nat.{_+_, _*_, _^_, _<_, _≤_};
+ghost use lib.ListN.{length, take};
+ghost use Rattle.rules.specs.Lines.{lines};
+ghost use Rattle.rules.specs.Paragraph.{accepts, blockStart, parse, recognised};
+ghost use Rattle.paragraph.specs.Scan.{endAbove, lastParagraph, scanned};
+use text::fixed::starts_with;
+use text::line::is_blank_line;
+use text::line::is_indented;
+use text::line::line_start;
+use text::line::trim_line_ending;
+use trailer::line::TrailerLine;
+use trailer::line::parse_trailer_line;
+
+// What is counted of the last paragraph, from the body's end upwards.
+pub struct Scan {
+    pub saw_non_blank_line: bool,
+    pub recognized_prefix: bool,
+    pub trailer_lines: usize,
+    pub non_trailer_lines: usize,
+    pub possible_continuation_lines: usize,
+}
+
+// The last paragraph: where it starts, and its counts.
+pub struct Paragraph {
+    pub start: usize,
+    pub scan: Scan,
+}
+
+// Whether a line starts with one of the prefixes that Git writes itself.
+pub fn is_recognized_prefix(line: &[u8]) -> bool
+    ensures { λ r. ⌜ r ≡ recognised (now (line .entry)) ⌝ }
+{
+    if starts_with(line, b"Signed-off-by: ") {
+        return true;
+    }
+    starts_with(line, b"(cherry picked from commit ")
+}
+
+// What one more line above, which is not blank, adds.
+fn scan_line(mut scan: Scan, line: &[u8]) -> Scan
+    requires { ⌜ scan .«trailer_lines» + scan .«non_trailer_lines» + scan .«possible_continuation_lines» < 2 ^ 63 ⌝ }
+    ensures { λ r. ⌜ r ≡ scanned (now (line .entry)) scan ⌝ }
+{
+    scan.saw_non_blank_line = true;
+    if is_recognized_prefix(line) {
+        scan.trailer_lines += 1;
+        scan.possible_continuation_lines = 0;
+        scan.recognized_prefix = true;
+        return scan;
+    }
+    if let TrailerLine::At {
+        token_end: _,
+        separator: _,
+    } = parse_trailer_line(line) {
+        scan.trailer_lines += 1;
+        scan.possible_continuation_lines = 0;
+        return scan;
+    }
+    if is_indented(line) {
+        scan.possible_continuation_lines += 1;
+        return scan;
+    }
+    scan.non_trailer_lines += 1 + scan.possible_continuation_lines;
+    scan.possible_continuation_lines = 0;
+    scan
+}
+
+// The last paragraph: from the body's end upwards, line by line, to the blank line above it.
+pub fn last_paragraph(body: &[u8]) -> Paragraph
+    ensures { λ r. ⌜ r ≡ lastParagraph (parse (lines (now (body .entry)))) ⌝ }
+{
+    let mut scan = Scan {
+        saw_non_blank_line: false,
+        recognized_prefix: false,
+        trailer_lines: 0,
+        non_trailer_lines: 0,
+        possible_continuation_lines: 0,
+    };
+    let mut end = body.len();
+    while end > 0 {
+        let start = line_start(body, end);
+        let line = &body[start..end];
+        if is_blank_line(line) {
+            if scan.saw_non_blank_line {
+                return Paragraph { start: end, scan };
+            }
+        } else {
+            scan = scan_line(scan, line);
+        }
+        end = start;
+    }
+    Paragraph { start: 0, scan }
+}
+
+// Git accepts the last paragraph if it is made entirely of trailers, or if it contains at least one recognized prefix and at
+// least 25% of it consists of trailer lines.
+pub fn accepts_as_trailer_block(
+    recognized_prefix: bool,
+    trailer_lines: usize,
+    non_trailer_lines: usize,
+) -> bool
+    requires { ⌜ 3 * «trailer_lines» < 2 ^ 64 ⌝ }
+    ensures { λ r. ⌜ r ≡ accepts «trailer_lines» «non_trailer_lines» «recognized_prefix» ⌝ }
+{
+    (trailer_lines > 0 && non_trailer_lines == 0)
+        || (recognized_prefix && trailer_lines * 3 >= non_trailer_lines)
+}
+
+// Where the text of the last line but one before `end` ends: `end` is the end of the blank line above the paragraph.
+fn end_above(body: &[u8], end: usize) -> usize
+    requires { ⌜ end ≤ length (now body) ⌝ }
+    ensures { λ r. ⌜ r ≡ endAbove (lines (take end (now (body .entry)))) ⌝ }
+{
+    let blank = line_start(body, end);
+    let start = line_start(body, blank);
+    start + trim_line_ending(&body[start..blank]).len()
+}
+
+// Where the trailer block of `body` starts; the body's length where its last paragraph is none.
+pub fn trailer_block_start(body: &[u8]) -> usize
+    ensures { λ r. ⌜ r ≡ blockStart (now (body .entry)) ⌝ }
+{
+    let paragraph = last_paragraph(body);
+    let scan = paragraph.scan;
+    let non_trailer_lines = scan.non_trailer_lines + scan.possible_continuation_lines;
+    if !accepts_as_trailer_block(
+        scan.recognized_prefix,
+        scan.trailer_lines,
+        non_trailer_lines,
+    ) {
+        return body.len();
+    }
+    end_above(body, paragraph.start)
+}

@@ -1,0 +1,145 @@
+-- The form at the end of an input, and the scans from the front and from the end: the laws that `white_len_last`, `trim_start`,
+-- `trim_end` and `trim` of src/white.rt go by. Assumes nothing.
+use mathlib.Core.Bool.{Bool, true, false, false≢true}
+use mathlib.Core.List.{List, [], _∷_, _++_, append-nil}
+use mathlib.Core.Path.{_≡_, refl, sym, ap, _∙_}
+use Prim.Native.Nat.{ℕ, zero, suc, _+_, _-_, _≤_, _<_}
+use native.Mathlib.Omega.{arith}
+use borrow.Author.Tests.{eq-eqb, eqb-true}
+use lib.ListN.{length, take, drop, length-append, length-drop, take-append-drop}
+use lib.Seq.{drop-append-seam, drop-drop, length-take-le, take-all, take-append-seam, take-take}
+use Rattle.rules.specs.Lists.{if_then_else_, filled}
+use Rattle.rules.specs.White.{Form, formAt, trimStart, trimEnd, trim, trimAt}
+use Rattle.rules.proofs.Lists.{filled-some}
+use Rattle.rules.proofs.White.{EndsWithNone, form, bare, form-at, form-back, form-filled, form-length, front-trimmed}
+use Rattle.rules.proofs.White.{trimStart-step, trimStart-stop, trimEnd-step, trimEnd-stop}
+use Rattle.white.specs.White.{lastForm, formEnd}
+use Rattle.white.proofs.Forms.{form-at-most-three}
+use Rattle.rules.proofs.Parts.{rest}
+
+-- ---- a form at the end, or none
+
+pub data Back (s : List ℕ) (n : ℕ) : Type 0 where
+  form-last : (f rest : List ℕ) → Form f → s ≡ rest ++ f → n ≡ length f → Back s n
+  bare-last : EndsWithNone s → n ≡ 0 → Back s n
+
+last-from : (k : ℕ) (s f rest : List ℕ) → Form f → drop (length s - k) s ≡ f ++ rest → k ≡ length f → Back s k
+last-from k s f [] m e l =
+    form-last f (take (length s - k) s) m (sym (take-append-drop (length s - k) s) ∙ rw (e, append-nil)) l
+last-from k s f (c ∷ rest) m e l = absurd (omega (arith, simp (length-drop, length-append) at (ap length e)))
+
+last-back : (k : ℕ) (s : List ℕ) → 0 < k → lastForm k s ≡ true → Back s k
+last-back k s h t =
+    let e : formAt (drop (length s - k) s) ≡ k = eqb-true (formAt (drop (length s - k) s)) k t in
+    elim (form-at (drop (length s - k) s)) [
+      | form f rest m q l ↦ last-from k s f rest m q (sym e ∙ l)
+      | bare b z ↦ absurd (omega arith)
+    ]
+
+last-of : (f rest : List ℕ) → Form f → lastForm (length f) (rest ++ f) ≡ true
+last-of f rest m =
+    let l : length (rest ++ f) - length f ≡ length rest = simp length-append (omega arith) in
+    rw (l, drop-append-seam) (eq-eqb (formAt f) (length f) (ap formAt (sym (append-nil f)) ∙ form-length f [] m))
+
+-- one of the three lengths is that of a form at the end
+one-of-three : (k : ℕ) (s : List ℕ) → 0 < k → k ≤ 3 → lastForm k s ≡ true →
+    lastForm 1 s ≡ false → lastForm 2 s ≡ false → lastForm 3 s ≡ false → ⊥
+one-of-three zero s h l t p q r = omega arith
+one-of-three (suc zero) s h l t p q r = false≢true (sym p ∙ t)
+one-of-three (suc (suc zero)) s h l t p q r = false≢true (sym q ∙ t)
+one-of-three (suc (suc (suc zero))) s h l t p q r = false≢true (sym r ∙ t)
+one-of-three (suc (suc (suc (suc k)))) s h l t p q r = omega arith
+
+end-by-tests : (a b c : Bool) (s : List ℕ) → lastForm 1 s ≡ a → lastForm 2 s ≡ b → lastForm 3 s ≡ c →
+    Back s (if a then 1 else if b then 2 else if c then 3 else 0)
+end-by-tests true b c s p q r = last-back 1 s (omega arith) p
+end-by-tests false true c s p q r = last-back 2 s (omega arith) q
+end-by-tests false false true s p q r = last-back 3 s (omega arith) r
+end-by-tests false false false s p q r = bare-last none refl
+  where
+    none : EndsWithNone s
+    none f rest m e =
+        one-of-three (length f) s (filled-some f (form-filled f m)) (form-at-most-three f m) (rw e (last-of f rest m)) p q r
+
+pub form-end : (s : List ℕ) → Back s (formEnd s)
+unfolding formEnd
+form-end s = end-by-tests (lastForm 1 s) (lastForm 2 s) (lastForm 3 s) s refl refl refl
+
+pub form-end-length : (f rest : List ℕ) → Form f → formEnd (rest ++ f) ≡ length f
+form-end-length f rest m =
+    elim (form-end (rest ++ f)) [
+      | form-last g r n e l ↦ l ∙ ap length (sym (form-back rest f r g m n e))
+      | bare-last b z ↦ absurd (b f rest m refl)
+    ]
+
+-- ---- the scan from the front: where it stands, as much is left to trim as at first
+
+pub start-turn : (s : List ℕ) (at k : ℕ) → k ≡ formAt (drop at s) → trimStart (drop at s) ≡ trimStart (drop (at + k) s)
+start-turn s at k e = trimStart-step (drop at s) ∙ rw (← e, drop-drop)
+
+pub start-stop : (s : List ℕ) (at : ℕ) → at ≤ length s → trimStart s ≡ trimStart (drop at s) → formAt (drop at s) ≡ 0 →
+    at ≡ length s - length (trimStart s)
+start-stop s at h t e = omega (arith, ap length (t ∙ trimStart-stop (drop at s) e), length-drop at s)
+
+-- ---- the scan from the end
+
+pub formEnd-fits : (s : List ℕ) → formEnd s ≤ length s
+formEnd-fits s =
+    elim (form-end s) [ form-last f rest m e l ↦ omega (arith, simp length-append at (ap length e)) | bare-last b z ↦ omega arith ]
+
+last-off : (s : List ℕ) → trimEnd s ≡ trimEnd (take (length s - formEnd s) s)
+last-off s =
+    elim (form-end s) [
+      | form-last f rest m e l ↦ (
+          let h : length s - formEnd s ≡ length rest = omega (arith, simp length-append at (ap length e)) in
+          let k : take (length s - formEnd s) s ≡ rest = rw h (ap (take (length rest)) e ∙ take-append-seam rest f) in
+          ap trimEnd e ∙ trimEnd-step rest f m ∙ ap trimEnd (sym k)
+          )
+      | bare-last b z ↦ ap trimEnd (sym (take-all (length s - formEnd s) s (omega arith)))
+    ]
+
+pub end-turn : (s : List ℕ) (end k : ℕ) → end ≤ length s → k ≡ formEnd (take end s) → trimEnd (take end s) ≡ trimEnd (take (end - k) s)
+end-turn s end k h e =
+    let l : length (take end s) ≡ end = length-take-le end s h in
+    last-off (take end s) ∙ rw (l, ← e, take-take (end - k) end s (omega arith))
+
+none-last : (s : List ℕ) → formEnd s ≡ 0 → trimEnd s ≡ s
+none-last s z =
+    elim (form-end s) [
+      | form-last f rest m e l ↦ absurd (omega (arith, filled-some f (form-filled f m)))
+      | bare-last b z ↦ trimEnd-stop s b
+    ]
+
+pub end-stop : (s : List ℕ) (end : ℕ) → end ≤ length s → trimEnd s ≡ trimEnd (take end s) → formEnd (take end s) ≡ 0 →
+    end ≡ length (trimEnd s)
+end-stop s end h t e = omega (arith, ap length (t ∙ none-last (take end s) e), length-take-le end s h)
+
+-- ---- both
+
+pub from-start : (s : List ℕ) → drop (length s - length (trimStart s)) s ≡ trimStart s
+from-start s =
+    let (front, w, e, b) = front-trimmed s in
+    let h : length s - length (trimStart s) ≡ length front = omega (arith, simp length-append at (ap length e)) in
+    rw h (ap (drop (length front)) e ∙ drop-append-seam front (trimStart s))
+
+-- what the scan from the end keeps of the part from `start` on is as long as what trimming keeps
+pub kept : (s : List ℕ) {start n : ℕ} → start ≡ length s - length (trimStart s) →
+    n ≡ length (trimEnd (take (length s - start) (drop start s))) → n ≡ length (trim s)
+unfolding trim
+kept s e k = k ∙ rw (rest, e, from-start)
+
+pub kept-place : (s : List ℕ) → 0 < length (trim s) → trimAt s ≡ length s - length (trimStart s)
+unfolding trimAt
+kept-place s h = at (trim s) h
+  where
+    at : (t : List ℕ) → 0 < length t → (if filled t then length s - length (trimStart s) else 0) ≡ length s - length (trimStart s)
+    at [] k = absurd (omega arith)
+    at (c ∷ t) k = refl
+
+pub empty-place : (s : List ℕ) → length (trim s) ≡ 0 → trimAt s ≡ 0
+unfolding trimAt
+empty-place s h = at (trim s) h
+  where
+    at : (t : List ℕ) → length t ≡ 0 → (if filled t then length s - length (trimStart s) else 0) ≡ 0
+    at [] k = refl
+    at (c ∷ t) k = absurd (omega arith)
