@@ -1,0 +1,251 @@
+//! The calls of the archive, as include/sluicepod.h declares them, and for each a function that lends it slices and
+//! reads the numbers of its answer. All `unsafe` code of the crate is here.
+//!
+//! Each call is sound for the same reasons. Its pointers are those of slices and of an array, each with its length:
+//! good for that length and never null, as the header asks; that of an empty slice dangles, but is not null. What it
+//! writes to, `out` and `result`, is held by `&mut`, so it overlaps nothing else that is lent. And it is proved of it
+//! that on all numbers and bytes it stays inside what it is lent, and ends.
+
+use std::ops::Range;
+
+use crate::Refusal;
+
+/// Which tokens are meant, by the header's numbers.
+#[derive(Clone, Copy)]
+#[repr(u32)]
+pub enum Kind {
+    All = 0,
+    SignedOffBy = 1,
+    CoAuthoredBy = 2,
+    AssistedBy = 3,
+    AckedBy = 4,
+    ReviewedBy = 5,
+    TestedBy = 6,
+    Attribution = 7,
+    Author = 8,
+}
+
+/// Where a value stands: a part of the input, or written to the front of `out`.
+pub enum Place {
+    Input(Range<usize>),
+    Out,
+}
+
+/// A trailer: where its token and its value stand.
+pub struct Found {
+    pub token: Range<usize>,
+    pub value: Place,
+}
+
+/// A step of the trailer walk: what it found, if it is not at the end, and the position to go on from.
+pub struct TrailerStep {
+    pub found: Option<Found>,
+    pub next: usize,
+}
+
+/// A step of the block walk: the ends of the message and of the block, if it is not at the end, and the position and the
+/// start to go on from.
+pub struct BlockStep {
+    pub ends: Option<(usize, usize)>,
+    pub next: (usize, usize),
+}
+
+/// The title's end and, where there is a body, its start.
+pub fn title_and_body(message: &[u8]) -> Result<(usize, Option<usize>), Refusal> {
+    let answer = ask(|result, len| unsafe { sluicepod_title_and_body(message.as_ptr(), message.len(), result, len) })?;
+    Ok(match answer {
+        [2, title_end, body_start, ..] => (title_end, Some(body_start)),
+        [_, title_end, ..] => (title_end, None),
+    })
+}
+
+/// The summary of a title.
+pub fn summary(title: &[u8], out: &mut [u8]) -> Result<Place, Refusal> {
+    let [_, held, start, end, ..] = ask(|result, len| unsafe {
+        sluicepod_summary(title.as_ptr(), title.len(), out.as_mut_ptr(), out.len(), result, len)
+    })?;
+    Ok(place(held, start, end))
+}
+
+/// The summary of a whole message.
+pub fn message_summary(message: &[u8], out: &mut [u8]) -> Result<Place, Refusal> {
+    let [_, held, start, end, ..] = ask(|result, len| unsafe {
+        sluicepod_message_summary(
+            message.as_ptr(),
+            message.len(),
+            out.as_mut_ptr(),
+            out.len(),
+            result,
+            len,
+        )
+    })?;
+    Ok(place(held, start, end))
+}
+
+/// Where the trailer block of a body starts.
+pub fn block_start(body: &[u8]) -> Result<usize, Refusal> {
+    let [_, start, ..] = ask(|result, len| unsafe { sluicepod_block_start(body.as_ptr(), body.len(), result, len) })?;
+    Ok(start)
+}
+
+/// Where the walk of a message's trailers begins.
+pub fn message_trailers(message: &[u8]) -> Result<usize, Refusal> {
+    let [_, at, ..] =
+        ask(|result, len| unsafe { sluicepod_message_trailers(message.as_ptr(), message.len(), result, len) })?;
+    Ok(at)
+}
+
+/// The next trailer of the kind from `at` on.
+pub fn next_trailer(body: &[u8], at: usize, kind: Kind, out: &mut [u8]) -> Result<TrailerStep, Refusal> {
+    let answer = ask(|result, len| unsafe {
+        sluicepod_next_trailer(
+            body.as_ptr(),
+            body.len(),
+            at,
+            kind as u32,
+            out.as_mut_ptr(),
+            out.len(),
+            result,
+            len,
+        )
+    })?;
+    Ok(match answer {
+        [6, token_start, token_end, held, start, end, next] => TrailerStep {
+            found: Some(Found {
+                token: token_start..token_end,
+                value: place(held, start, end),
+            }),
+            next,
+        },
+        [_, next, ..] => TrailerStep { found: None, next },
+    })
+}
+
+/// The first trailer of a body that has the name.
+pub fn find_trailer(body: &[u8], name: &[u8], out: &mut [u8]) -> Result<Option<Found>, Refusal> {
+    let answer = ask(|result, len| unsafe {
+        sluicepod_find_trailer(
+            body.as_ptr(),
+            body.len(),
+            name.as_ptr(),
+            name.len(),
+            out.as_mut_ptr(),
+            out.len(),
+            result,
+            len,
+        )
+    })?;
+    Ok(match answer {
+        [5, token_start, token_end, held, start, end, _] => Some(Found {
+            token: token_start..token_end,
+            value: place(held, start, end),
+        }),
+        _ => None,
+    })
+}
+
+/// The next block from `at` on, where the body's trailer block starts at `start`.
+pub fn next_block(body: &[u8], at: usize, start: usize) -> Result<BlockStep, Refusal> {
+    let answer = ask(|result, len| unsafe { sluicepod_next_block(body.as_ptr(), body.len(), at, start, result, len) })?;
+    Ok(match answer {
+        [4, message_end, end, at, start, ..] => BlockStep {
+            ends: Some((message_end, end)),
+            next: (at, start),
+        },
+        [_, at, start, ..] => BlockStep {
+            ends: None,
+            next: (at, start),
+        },
+    })
+}
+
+/// Whether a token is of the kind.
+pub fn is_of_kind(token: &[u8], kind: Kind) -> Result<bool, Refusal> {
+    let [_, yes, ..] = ask(|result, len| unsafe {
+        sluicepod_is_of_kind(token.as_ptr(), token.len(), 0, token.len(), kind as u32, result, len)
+    })?;
+    Ok(yes == 1)
+}
+
+/// How many entries the calls ask of `result`: the first says how many values there are, and they follow it.
+const RESULT_LEN: usize = 7;
+
+/// Lends `result` to a call, and gives back what it wrote there, or its refusal.
+fn ask(call: impl FnOnce(*mut usize, usize) -> u32) -> Result<[usize; RESULT_LEN], Refusal> {
+    let mut result = [0; RESULT_LEN];
+    match call(result.as_mut_ptr(), result.len()) {
+        0 => Ok(result),
+        1 => Err(Refusal::TooLong),
+        2 => Err(Refusal::BadPlace),
+        3 => Err(Refusal::NoRoom { needed: result[1] }),
+        // The two others are for a number that is no `Kind` and for fewer entries than RESULT_LEN.
+        code => unreachable!("the archive's code {}", code),
+    }
+}
+
+fn place(held: usize, start: usize, end: usize) -> Place {
+    match held {
+        0 => Place::Input(start..end),
+        _ => Place::Out,
+    }
+}
+
+extern "C" {
+    fn sluicepod_title_and_body(message: *const u8, message_len: usize, result: *mut usize, result_len: usize) -> u32;
+    fn sluicepod_summary(
+        title: *const u8,
+        title_len: usize,
+        out: *mut u8,
+        out_len: usize,
+        result: *mut usize,
+        result_len: usize,
+    ) -> u32;
+    fn sluicepod_message_summary(
+        message: *const u8,
+        message_len: usize,
+        out: *mut u8,
+        out_len: usize,
+        result: *mut usize,
+        result_len: usize,
+    ) -> u32;
+    fn sluicepod_block_start(body: *const u8, body_len: usize, result: *mut usize, result_len: usize) -> u32;
+    fn sluicepod_message_trailers(message: *const u8, message_len: usize, result: *mut usize, result_len: usize)
+        -> u32;
+    fn sluicepod_next_trailer(
+        body: *const u8,
+        body_len: usize,
+        at: usize,
+        kind: u32,
+        out: *mut u8,
+        out_len: usize,
+        result: *mut usize,
+        result_len: usize,
+    ) -> u32;
+    fn sluicepod_find_trailer(
+        body: *const u8,
+        body_len: usize,
+        name: *const u8,
+        name_len: usize,
+        out: *mut u8,
+        out_len: usize,
+        result: *mut usize,
+        result_len: usize,
+    ) -> u32;
+    fn sluicepod_next_block(
+        body: *const u8,
+        body_len: usize,
+        at: usize,
+        start: usize,
+        result: *mut usize,
+        result_len: usize,
+    ) -> u32;
+    fn sluicepod_is_of_kind(
+        input: *const u8,
+        input_len: usize,
+        start: usize,
+        end: usize,
+        kind: u32,
+        result: *mut usize,
+        result_len: usize,
+    ) -> u32;
+}

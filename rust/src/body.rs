@@ -1,0 +1,285 @@
+use std::{borrow::Cow, iter, ops::Deref};
+
+use crate::{
+    archive::{self, Found, Kind},
+    value::{value, with_room},
+    Refusal,
+};
+
+/// The body of a message, with its trailers told from the rest.
+///
+/// As bytes, by [`Deref`] and [`AsRef`], it is the part [without the trailers](BodyRef::without_trailer), as in the
+/// original.
+///
+/// ```
+/// use sluicepod::BodyRef;
+///
+/// let body = BodyRef::from_bytes(b"All well.\n\nVehicle: 7\nRecords: 318,\n 22 late\n")?;
+/// assert_eq!(body.without_trailer(), b"All well.");
+/// let trailers: Vec<_> = body.trailers().collect();
+/// assert_eq!(trailers.len(), 2);
+/// assert_eq!(trailers[1].token, b"Records");
+/// assert_eq!(&trailers[1].value[..], b"318, 22 late");
+/// # Ok::<(), sluicepod::Refusal>(())
+/// ```
+#[derive(PartialEq, Eq, Debug, Hash, Ord, PartialOrd, Clone, Copy)]
+pub struct BodyRef<'a> {
+    // Within LIMIT.
+    body: &'a [u8],
+    // At most the body's length.
+    trailer_start: usize,
+}
+
+impl<'a> BodyRef<'a> {
+    /// Finds the trailer block of a body.
+    ///
+    /// # Errors
+    ///
+    /// [`Refusal::TooLong`], where the body is longer than [`LIMIT`](crate::LIMIT).
+    pub fn from_bytes(body: &'a [u8]) -> Result<Self, Refusal> {
+        let trailer_start = archive::block_start(body)?;
+        Ok(BodyRef { body, trailer_start })
+    }
+
+    /// Where the trailer block starts in the body; the body's length where there is none.
+    ///
+    /// The block begins with the end of the line above the blank line that it stands under.
+    pub fn trailer_start(&self) -> usize {
+        self.trailer_start
+    }
+
+    /// The body up to its trailer block.
+    pub fn without_trailer(&self) -> &'a [u8] {
+        &self.body[..self.trailer_start]
+    }
+
+    /// The trailers of the trailer block.
+    pub fn trailers(&self) -> Trailers<'a> {
+        Trailers {
+            input: self.body,
+            at: self.trailer_start,
+        }
+    }
+
+    /// The whole body as messages, each with the trailers that directly follow it.
+    ///
+    /// The parts, joined, are the body. What looks like a trailer above the trailer block is a part of a message.
+    ///
+    /// ```
+    /// use sluicepod::BodyRef;
+    ///
+    /// let body = BodyRef::from_bytes(b"A: b\nSigned-off-by: c\nx\nD: e\n")?;
+    /// let blocks: Vec<_> = body.message_blocks().collect();
+    /// assert_eq!(blocks.len(), 2);
+    /// assert_eq!((blocks[0].message, blocks[0].trailers().count()), (&b""[..], 2));
+    /// assert_eq!((blocks[1].message, blocks[1].trailers().count()), (&b"x\n"[..], 1));
+    /// # Ok::<(), sluicepod::Refusal>(())
+    /// ```
+    pub fn message_blocks(&self) -> MessageBlocks<'a> {
+        MessageBlocks {
+            body: self.body,
+            at: 0,
+            start: self.trailer_start,
+        }
+    }
+
+    /// The first trailer whose token is `name`, ASCII case aside.
+    ///
+    /// An empty name is found nowhere, and neither is one longer than [`LIMIT`](crate::LIMIT), since no body has room for
+    /// such a token. The original has no such call; to search the bytes of the body, ask
+    /// [`without_trailer`](BodyRef::without_trailer) for them.
+    ///
+    /// ```
+    /// use sluicepod::BodyRef;
+    ///
+    /// let body = BodyRef::from_bytes(b"Vehicle: 7\nOffload-state: complete\n")?;
+    /// assert_eq!(&body.find(b"offload-state").unwrap().value[..], b"complete");
+    /// assert_eq!(body.find(b"Records"), None);
+    /// # Ok::<(), sluicepod::Refusal>(())
+    /// ```
+    pub fn find(&self, name: &[u8]) -> Option<TrailerRef<'a>> {
+        // The body is within the limit and there is room, so what is refused is the name's length.
+        let (found, out) = with_room(|out| archive::find_trailer(self.body, name, out)).ok()?;
+        Some(TrailerRef::at(self.body, found?, out))
+    }
+}
+
+impl AsRef<[u8]> for BodyRef<'_> {
+    fn as_ref(&self) -> &[u8] {
+        self.without_trailer()
+    }
+}
+
+impl Deref for BodyRef<'_> {
+    type Target = [u8];
+
+    fn deref(&self) -> &[u8] {
+        self.without_trailer()
+    }
+}
+
+/// The trailers of a body or of a block, in order; lines that are no part of a trailer are passed over.
+#[derive(Clone, Debug)]
+pub struct Trailers<'a> {
+    // Within LIMIT.
+    pub(crate) input: &'a [u8],
+    // At most the input's length.
+    pub(crate) at: usize,
+}
+
+impl<'a> Trailers<'a> {
+    /// The next trailer of the kind.
+    fn next_of(&mut self, kind: Kind) -> Option<TrailerRef<'a>> {
+        let (step, out) = with_room(|out| archive::next_trailer(self.input, self.at, kind, out))
+            .expect("a position in an input within the limit");
+        self.at = step.next;
+        Some(TrailerRef::at(self.input, step.found?, out))
+    }
+
+    fn only(mut self, kind: Kind) -> impl Iterator<Item = TrailerRef<'a>> {
+        iter::from_fn(move || self.next_of(kind))
+    }
+}
+
+impl<'a> Iterator for Trailers<'a> {
+    type Item = TrailerRef<'a>;
+
+    fn next(&mut self) -> Option<TrailerRef<'a>> {
+        self.next_of(Kind::All)
+    }
+}
+
+/// The trailers that are left, by kind; tokens are compared without regard to ASCII case.
+impl<'a> Trailers<'a> {
+    /// Those of `Signed-off-by`.
+    pub fn signed_off_by(self) -> impl Iterator<Item = TrailerRef<'a>> {
+        self.only(Kind::SignedOffBy)
+    }
+
+    /// Those of `Co-authored-by`.
+    pub fn co_authored_by(self) -> impl Iterator<Item = TrailerRef<'a>> {
+        self.only(Kind::CoAuthoredBy)
+    }
+
+    /// Those of `Assisted-by`.
+    pub fn assisted_by(self) -> impl Iterator<Item = TrailerRef<'a>> {
+        self.only(Kind::AssistedBy)
+    }
+
+    /// Those of `Signed-off-by`, `Co-authored-by`, `Assisted-by`, `Acked-by`, `Reviewed-by` and `Tested-by`.
+    pub fn attributions(self) -> impl Iterator<Item = TrailerRef<'a>> {
+        self.only(Kind::Attribution)
+    }
+
+    /// Those of `Signed-off-by` and `Co-authored-by`.
+    pub fn authors(self) -> impl Iterator<Item = TrailerRef<'a>> {
+        self.only(Kind::Author)
+    }
+}
+
+/// A trailer of a body.
+#[derive(PartialEq, Eq, Debug, Hash, Ord, PartialOrd, Clone)]
+pub struct TrailerRef<'a> {
+    /// What stands before the colon, like `Signed-off-by`, without the spaces and tabs behind it.
+    pub token: &'a [u8],
+    /// What stands behind the colon, trimmed.
+    ///
+    /// A value of one line is borrowed. One that goes on in indented lines is owned: its lines are trimmed, and those
+    /// that are not empty joined by one space.
+    pub value: Cow<'a, [u8]>,
+}
+
+impl<'a> TrailerRef<'a> {
+    fn at(input: &'a [u8], found: Found, out: Vec<u8>) -> Self {
+        TrailerRef {
+            token: &input[found.token],
+            value: value(input, found.value, out),
+        }
+    }
+}
+
+/// Questions about the token, which is compared without regard to ASCII case.
+impl TrailerRef<'_> {
+    /// Whether it is `Signed-off-by`.
+    pub fn is_signed_off_by(&self) -> bool {
+        self.is_of(Kind::SignedOffBy)
+    }
+
+    /// Whether it is `Co-authored-by`.
+    pub fn is_co_authored_by(&self) -> bool {
+        self.is_of(Kind::CoAuthoredBy)
+    }
+
+    /// Whether it is `Assisted-by`.
+    pub fn is_assisted_by(&self) -> bool {
+        self.is_of(Kind::AssistedBy)
+    }
+
+    /// Whether it is `Acked-by`.
+    pub fn is_acked_by(&self) -> bool {
+        self.is_of(Kind::AckedBy)
+    }
+
+    /// Whether it is `Reviewed-by`.
+    pub fn is_reviewed_by(&self) -> bool {
+        self.is_of(Kind::ReviewedBy)
+    }
+
+    /// Whether it is `Tested-by`.
+    pub fn is_tested_by(&self) -> bool {
+        self.is_of(Kind::TestedBy)
+    }
+
+    /// Whether it is one of these six.
+    pub fn is_attribution(&self) -> bool {
+        self.is_of(Kind::Attribution)
+    }
+
+    /// A token over the limit, which can be put there by hand, is refused: it is none of the six.
+    fn is_of(&self, kind: Kind) -> bool {
+        archive::is_of_kind(self.token, kind).unwrap_or(false)
+    }
+}
+
+/// The messages of a body with the trailers that follow each, in order.
+#[derive(Clone, Debug)]
+pub struct MessageBlocks<'a> {
+    // Within LIMIT.
+    body: &'a [u8],
+    // Both at most the body's length.
+    at: usize,
+    start: usize,
+}
+
+impl<'a> Iterator for MessageBlocks<'a> {
+    type Item = MessageBlock<'a>;
+
+    fn next(&mut self) -> Option<MessageBlock<'a>> {
+        let from = self.at;
+        let step = archive::next_block(self.body, from, self.start).expect("positions in a body within the limit");
+        (self.at, self.start) = step.next;
+        let (message_end, end) = step.ends?;
+        Some(MessageBlock {
+            message: &self.body[from..message_end],
+            trailers: &self.body[message_end..end],
+        })
+    }
+}
+
+/// A message and the trailers that directly follow it.
+#[derive(Clone, Copy, Debug)]
+pub struct MessageBlock<'a> {
+    /// The message as it stands in the body, white space and line ends with it.
+    pub message: &'a [u8],
+    trailers: &'a [u8],
+}
+
+impl<'a> MessageBlock<'a> {
+    /// The trailers that directly follow [`message`](MessageBlock::message).
+    pub fn trailers(&self) -> Trailers<'a> {
+        Trailers {
+            input: self.trailers,
+            at: 0,
+        }
+    }
+}

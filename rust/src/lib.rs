@@ -1,0 +1,37 @@
+//! The trailers, blocks, title and summary of a commit message, read by proved code.
+//!
+//! The reading is done by Sluicepod's archive, `libexports.a`: a port of the module `src/commit/message` of gix-object
+//! 0.64.1 to a language in which every function is proved. This crate gives its calls the original's names, so that
+//! code for the original moves by changing an import and handling a refusal:
+//!
+//! - The calls that are given bytes answer with a [`Result`]: they refuse input longer than [`LIMIT`].
+//! - Bytes are `[u8]`, not `BStr`: the crate has no dependencies.
+//! - `CommitRef::message_summary()` and `CommitRef::message_trailers()` are functions that take the commit's message.
+//! - [`BodyRef::find`] and [`BodyRef::trailer_start`] are added.
+//!
+//! A value that is a part of the input is borrowed, and one that had to be written is owned. No input makes a call panic.
+//!
+//! ```
+//! use sluicepod::MessageRef;
+//!
+//! let message = b"Offload of bus 7\n\nAll well.\n\nVehicle: 7\nRecords: 318,\n 22 late\nOffload-state: complete\n";
+//! let body = MessageRef::from_bytes(message)?.body().unwrap();
+//! assert_eq!(body.trailers().count(), 3);
+//! assert_eq!(&body.find(b"Records").unwrap().value[..], b"318, 22 late");
+//! # Ok::<(), sluicepod::Refusal>(())
+//! ```
+#![deny(missing_docs, unsafe_code)]
+
+#[allow(unsafe_code)]
+mod archive;
+mod body;
+mod message;
+mod refusal;
+mod value;
+
+pub use body::{BodyRef, MessageBlock, MessageBlocks, TrailerRef, Trailers};
+pub use message::{message_summary, message_trailers, MessageRef};
+pub use refusal::Refusal;
+
+/// The longest message or body that is read, in bytes; a longer one is refused.
+pub const LIMIT: usize = 1_048_576;

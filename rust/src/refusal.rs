@@ -1,0 +1,43 @@
+use std::fmt;
+
+use crate::LIMIT;
+
+/// Why a call gave no answer.
+///
+/// The calls of this crate give [`TooLong`](Refusal::TooLong) alone: they keep their positions themselves, and make room
+/// for what is written. The other two are those of the archive's calls, which have the same numbers.
+#[derive(Clone, Copy, Debug, PartialEq, Eq, Hash)]
+pub enum Refusal {
+    /// An input is longer than [`LIMIT`].
+    TooLong,
+    /// A position or a range does not fit in the input.
+    BadPlace,
+    /// A buffer is too short for what is to be written.
+    NoRoom {
+        /// The length that is needed, in bytes; no shorter one will do.
+        needed: usize,
+    },
+}
+
+impl Refusal {
+    /// The refusal's number: 1, 2 or 3, in the order above.
+    pub fn number(&self) -> u32 {
+        match self {
+            Refusal::TooLong => 1,
+            Refusal::BadPlace => 2,
+            Refusal::NoRoom { .. } => 3,
+        }
+    }
+}
+
+impl fmt::Display for Refusal {
+    fn fmt(&self, f: &mut fmt::Formatter<'_>) -> fmt::Result {
+        match self {
+            Refusal::TooLong => write!(f, "the input is longer than {} bytes", LIMIT),
+            Refusal::BadPlace => write!(f, "the position or range is not in the input"),
+            Refusal::NoRoom { needed } => write!(f, "the buffer is too short: {} bytes are needed", needed),
+        }
+    }
+}
+
+impl std::error::Error for Refusal {}
