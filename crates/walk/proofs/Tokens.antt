@@ -1,9 +1,11 @@
 -- The tokens that are asked for, as a chain of tests that the code makes. Assumes nothing.
-use mathlib.Core.Bool.{Bool, true, false, _||_, or-false}
+use mathlib.Core.Bool.{Bool, true, false, not, _&&_, _||_, or-false}
 use mathlib.Core.List.{List, [], _∷_}
 use mathlib.Core.Path.{_≡_, refl}
-use Prim.Native.Nat.{ℕ}
+use Prim.Native.Nat.{ℕ, suc}
 use native.Mathlib.Omega.{arith}
+use borrow.Author.Tests.{ne-eqb}
+use lib.Dec.{eqb}
 use lib.ListN.{length}
 use Rattle.rules.specs.Bytes.{bytes}
 use Rattle.rules.specs.Trailer.{asked, attribution, author, same}
@@ -27,12 +29,7 @@ attribution-is token =
     regroup (same token (bytes "Signed-off-by")) (same token (bytes "Co-authored-by")) (same token (bytes "Assisted-by"))
     (same token (bytes "Acked-by")) (same token (bytes "Reviewed-by")) (same token (bytes "Tested-by"))
 
-pub asked-empty : (name token : List ℕ) → length name ≡ 0 → asked name token ≡ false
+pub asked-is : (name token : List ℕ) → asked name token ≡ not (eqb (length name) 0) && same name token
 unfolding asked
-asked-empty [] token e = refl
-asked-empty (c ∷ name) token e = absurd (omega arith)
-
-pub asked-some : (name token : List ℕ) → (length name ≡ 0 → ⊥) → asked name token ≡ same name token
-unfolding asked
-asked-some [] token n = absurd (n refl)
-asked-some (c ∷ name) token n = refl
+asked-is [] token = refl
+asked-is (c ∷ name) token = rw (ne-eqb (suc (length name)) 0 (omega arith))

@@ -4,7 +4,7 @@ ghost use Prim.Native.Nat.{_≤_};
 ghost use lib.ListN.{length};
 ghost use Rattle.rules.specs.Trailer.{asked, attribution, author, isOf, lookup, only, walkFrom};
 ghost use Rattle.trailer.specs.Walk.{nextOf};
-ghost use Rattle.walk.specs.Lookup.{lookedUp};
+ghost use Rattle.walk.specs.Lookup.{isWanted, lookedUp, nextWanted};
 use rules::Kind;
 use text::fixed::eq_ignore_ascii_case;
 use trailer::walk::NextTrailer;
@@ -56,10 +56,26 @@ pub fn is_of(kind: Kind, token: &[u8]) -> bool
     }
 }
 
-// The first trailer of the walk from `at` on whose token is of the kind; the others are passed over.
-pub fn next_of(body: &[u8], at: usize, kind: Kind) -> NextTrailer
+// What a trailer is wanted by: the kind of its token, or the name that is lent beside.
+enum Wanted {
+    OfKind(Kind),
+    Named,
+}
+
+// Whether a token is wanted. A name is compared ASCII case aside; an empty name is no token's.
+fn is_wanted(wanted: Wanted, name: &[u8], token: &[u8]) -> bool
+    ensures { λ r. ⌜ r ≡ isWanted wanted (now (name .entry)) (now (token .entry)) ⌝ }
+{
+    match wanted {
+        Wanted::OfKind(kind) => is_of(kind, token),
+        Wanted::Named => name.len() != 0 && eq_ignore_ascii_case(name, token),
+    }
+}
+
+// The first trailer of the walk from `at` on whose token is wanted; the others are passed over.
+fn next_wanted(body: &[u8], at: usize, wanted: Wanted, name: &[u8]) -> NextTrailer
     requires { ⌜ at ≤ length (now body) ⌝ }
-    ensures { λ r. ⌜ r ≡ nextOf (only kind (walkFrom (now (body .entry)) at)) ⌝ }
+    ensures { λ r. ⌜ r ≡ nextWanted wanted (now (name .entry)) (walkFrom (now (body .entry)) at) ⌝ }
 {
     let mut from = at;
     loop {
@@ -73,21 +89,19 @@ pub fn next_of(body: &[u8], at: usize, kind: Kind) -> NextTrailer
         else {
             return NextTrailer::End;
         };
-        if is_of(kind, &body[start..token_end]) {
+        if is_wanted(wanted, name, &body[start..token_end]) {
             return found;
         }
         from = end;
     }
 }
 
-// Whether a token is the one asked for by name, ASCII case aside. An empty name is no token's.
-fn is_asked(name: &[u8], token: &[u8]) -> bool
-    ensures { λ r. ⌜ r ≡ asked (now (name .entry)) (now (token .entry)) ⌝ }
+// The first trailer of the walk from `at` on whose token is of the kind.
+pub fn next_of(body: &[u8], at: usize, kind: Kind) -> NextTrailer
+    requires { ⌜ at ≤ length (now body) ⌝ }
+    ensures { λ r. ⌜ r ≡ nextOf (only kind (walkFrom (now (body .entry)) at)) ⌝ }
 {
-    if name.len() == 0 {
-        return false;
-    }
-    eq_ignore_ascii_case(name, token)
+    next_wanted(body, at, Wanted::OfKind(kind), b"")
 }
 
 // The first trailer of the walk from `at` on that has the name.
@@ -95,21 +109,5 @@ pub fn find_named(body: &[u8], at: usize, name: &[u8]) -> NextTrailer
     requires { ⌜ at ≤ length (now body) ⌝ }
     ensures { λ r. ⌜ r ≡ lookedUp (lookup (now (name .entry)) (walkFrom (now (body .entry)) at)) ⌝ }
 {
-    let mut from = at;
-    loop {
-        let found = next_trailer_from(body, from);
-        let NextTrailer::Trailer {
-            start,
-            token_end,
-            separator: _,
-            end,
-        } = found
-        else {
-            return NextTrailer::End;
-        };
-        if is_asked(name, &body[start..token_end]) {
-            return found;
-        }
-        from = end;
-    }
+    next_wanted(body, at, Wanted::Named, name)
 }
