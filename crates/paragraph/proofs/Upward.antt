@@ -14,7 +14,8 @@ use Rattle.rules.specs.Lists.{all, join}
 use Rattle.rules.specs.Paragraph.{solid, Body, put, parse}
 use Rattle.rules.proofs.Lines.{join-lines, lines-from, text-ending}
 use Rattle.rules.proofs.Lists.{cut-unique}
-use Rattle.text.specs.Lines.{behindLF, lineStart}
+use Rattle.find.specs.Find.{behindLF}
+use Rattle.text.specs.Lines.{lineStart}
 use Rattle.text.proofs.Lines.{behind-le, last-line, line-start-before, line-start-starts, blank-all}
 use Rattle.paragraph.specs.declared.Scan.{Scan}
 use Rattle.paragraph.specs.Scan.{counts, counted, scanned, paragraph, lastParagraph, textEnd, endAbove}

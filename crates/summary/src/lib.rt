@@ -10,27 +10,13 @@ ghost use Rattle.rules.specs.Answers.{afterwards, valueFoundSays, writtenAnswer
 ghost use Rattle.rules.specs.Lists.{run};
 ghost use Rattle.rules.specs.Summary.{dropBlanks, folded, pieces, spaced, many};
 ghost use Rattle.summary.specs.Put.{put};
+use find::find_lf;
 use rules::Part;
 use rules::Refusal;
 use rules::Value;
 use rules::ValueFound;
 use text::line::is_ascii_whitespace;
 use white::trim_end;
-
-// The place of the first such byte from `at` on; the end where there is none.
-fn find_byte(s: &[u8], at: usize, byte: u8) -> usize
-    requires { ⌜ at ≤ length (now s) ⌝ }
-    ensures { λ r. ⌜ r ≡ at + length (run (λ c. not (eqb c byte)) (drop at (now (s .entry)))) ⌝ }
-{
-    let mut i = at;
-    while i < s.len() {
-        if s[i] == byte {
-            return i;
-        }
-        i += 1;
-    }
-    i
-}
 
 // The length of a piece without the ASCII blanks at its end.
 fn trim_blanks(piece: &[u8]) -> usize
@@ -50,7 +36,7 @@ fn trim_blanks(piece: &[u8]) -> usize
 pub fn is_written(message: &[u8]) -> bool
     ensures { λ r. ⌜ r ≡ many (pieces (now (message .entry))) ⌝ }
 {
-    find_byte(message, 0, b'\n') < message.len()
+    find_lf(message, 0) < message.len()
 }
 
 // The length of the summary of a message that is trimmed. The pieces before `at` have `len` bytes folded, of which `kept` stay
@@ -61,7 +47,7 @@ fn summary_len(message: &[u8]) -> usize
     let mut len = 0;
     let mut kept = 0;
     let mut at = 0;
-    let mut pos = find_byte(message, 0, b'\n');
+    let mut pos = find_lf(message, 0);
     while pos < message.len() {
         if pos == at {
             return kept;
@@ -73,7 +59,7 @@ fn summary_len(message: &[u8]) -> usize
         }
         len += trim_blanks(piece) + 1;
         at = pos + 1;
-        pos = find_byte(message, at, b'\n');
+        pos = find_lf(message, at);
     }
     len + (pos - at)
 }
@@ -118,14 +104,14 @@ fn summarise_into(message: &[u8], out: &mut [u8], n: usize)
 {
     let mut len = 0;
     let mut at = 0;
-    let mut pos = find_byte(message, 0, b'\n');
+    let mut pos = find_lf(message, 0);
     while pos < message.len() {
         if len == n {
             return;
         }
         len = fold_to(&message[at..pos], out, len, n);
         at = pos + 1;
-        pos = find_byte(message, at, b'\n');
+        pos = find_lf(message, at);
     }
     copy_to(&message[at..], out, len, n);
 }

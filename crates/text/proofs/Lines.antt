@@ -1,6 +1,6 @@
 -- Lines for those who walk them by `line_len` and `line_start`: the first line and the lines behind it, the last line and the
 -- lines before it; and a blank line is known by its bytes, with its ending or without. Assumes nothing.
-use mathlib.Core.Bool.{Bool, true, false}
+use mathlib.Core.Bool.{Bool, true, false, not}
 use mathlib.Core.List.{List, [], _∷_, _++_}
 use mathlib.Core.Path.{_≡_, refl, sym, ap, _∙_}
 use Prim.Native.Nat.{ℕ, zero, suc, _+_, _-_, _≤_, _<_}
@@ -11,10 +11,11 @@ use lib.ListN.{length, take, drop, getD, length-append, length-drop, drop-of-len
 use lib.Seq.{take-append-seam, drop-append-seam, take-suc, length-take-le, drop-append-le, take-take, drop-drop}
 use Rattle.rules.specs.Bytes.{LF, CR, blankByte}
 use Rattle.rules.specs.Lines.{Line, inner, without, text, blank, before, lines}
-use Rattle.rules.specs.Lists.{if_then_else_, All, all, join}
+use Rattle.rules.specs.Lists.{if_then_else_, All, all, join, run}
 use Rattle.rules.proofs.Lists.{is-false, all-append}
 use Rattle.rules.proofs.Lines.{join-lines, lines-suffix, lines-from, LineStart}
-use Rattle.text.specs.Lines.{firstLength, behindLF, lineStart}
+use Rattle.find.specs.Find.{behindLF, isLF, untilLF}
+use Rattle.text.specs.Lines.{firstLength, lineStart}
 
 -- ---- the first line
 
@@ -45,6 +46,23 @@ first-within s = within (lines s) (join-lines s)
     within : (ls : List Line) → join ls ≡ s → firstLength ls ≤ length s
     within [] e = omega arith
     within (l ∷ ls) e = omega (arith, simp length-append at (ap length e))
+
+-- it ends with the first LF; where there is none, it is all
+abbrev Ended : ℕ → ℕ → ℕ → Type 0
+Ended len until first = (until < len → first ≡ suc until) × (until ≡ len → first ≡ len)
+
+first-more : (c : ℕ) (ls : List Line) → firstLength (before false c ls) ≡ suc (firstLength ls)
+first-more c [] = refl
+first-more c (l ∷ ls) = refl
+
+pub first-ends : (s : List ℕ) → Ended (length s) (untilLF s) (firstLength (lines s))
+first-ends [] = (λ h. absurd (omega arith), λ e. refl)
+first-ends (c ∷ s) = by (isLF c) (first-ends s)
+  where
+    by : (b : Bool) → Ended (length s) (untilLF s) (firstLength (lines s))
+        → Ended (suc (length s)) (length (if not b then c ∷ run (λ d. not (isLF d)) s else [])) (firstLength (before b c (lines s)))
+    by true later = (λ h. refl, λ e. absurd (omega arith))
+    by false later = rw (first-more c (lines s)) (λ h. ap suc (later .0 (omega arith)), λ e. ap suc (later .1 (omega arith)))
 
 -- the same of the lines from a place on
 pub first-line-at : (s : List ℕ) (i : ℕ) → i < length s

@@ -6,19 +6,18 @@ ghost use Rattle.rules.specs.Bytes.{blankByte};
 ghost use Rattle.rules.specs.Lines.{folds, indented, lines, text, without};
 ghost use Rattle.rules.specs.Lists.{all};
 ghost use Rattle.text.specs.Lines.{firstLength, lineStart};
+use find::behind_lf;
+use find::find_lf;
 
 // The length of the first line, its ending with it; 0 of an empty input.
 pub fn line_len(s: &[u8]) -> usize
     ensures { λ r. ⌜ r ≡ firstLength (lines (now (s .entry))) ⌝ }
 {
-    let mut i = 0;
-    while i < s.len() {
-        if s[i] == b'\n' {
-            return i + 1;
-        }
-        i += 1;
+    let end = find_lf(s, 0);
+    if end == s.len() {
+        return end;
     }
-    i
+    end + 1
 }
 
 // Where the line that ends at `at` starts: the byte before `at` may be that line's own LF.
@@ -29,14 +28,7 @@ pub fn line_start(s: &[u8], at: usize) -> usize
     if at == 0 {
         return 0;
     }
-    let mut i = at - 1;
-    while i > 0 {
-        if s[i - 1] == b'\n' {
-            return i;
-        }
-        i -= 1;
-    }
-    0
+    behind_lf(s, at - 1)
 }
 
 // `line` without its last byte, where that is `byte`.

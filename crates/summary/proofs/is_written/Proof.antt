@@ -18,13 +18,13 @@ by : (s : List ℕ) (pos : ℕ) → pos ≡ 0 + length (run inner s) → (b : Bo
 by s pos e true t = let (q, ps, o) = some-piece (drop (pos + 1) s) in rw (piece-at s 0 pos e (ltb-true _ _ t), o)
 by s pos e false t = rw (last-piece-at s 0 pos e (ltb-false _ _ t))
 
-find-byte-requires : tie.Need-find-byte-requires
-find-byte-requires c κs = search needs
+find-lf-requires : tie.Need-find-lf-requires
+find-lf-requires c κs = search needs
 
 returns : tie.Need-returns
 returns c =
     let s = c .before .before .args .message .now in
-    by s (c .find-byte .result) (c .find-byte .ensures) (ltb (c .find-byte .result) (length s)) refl
+    by s (c .find-lf .result) (c .find-lf .ensures) (ltb (c .find-lf .result) (length s)) refl
 
 pub is-written-spec : {M : Type 1} → statement M
-is-written-spec = tie.close (tie.spec find-byte-requires returns)
+is-written-spec = tie.close (tie.spec find-lf-requires returns)

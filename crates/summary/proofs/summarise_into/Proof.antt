@@ -63,8 +63,8 @@ Inv-loop message out₀ n len₀ at₀ pos₀ out len at pos =
 abbrev μ-loop : tie.MeasureT-loop
 μ-loop message out₀ n len₀ at₀ pos₀ out len at pos = length message - at
 
-find-byte-requires : tie.Need-find-byte-requires Inv-loop μ-loop
-find-byte-requires c κs = search needs
+find-lf-requires : tie.Need-find-lf-requires Inv-loop μ-loop
+find-lf-requires c κs = search needs
 
 loop-holds : tie.Need-loop-holds Inv-loop μ-loop
 loop-holds c =
@@ -96,8 +96,8 @@ fold-to-requires c κs = search needs
 add-at : tie.Need-add-at Inv-loop μ-loop
 add-at c = search needs
 
-find-byte-requires-2 : tie.Need-find-byte-requires-2 Inv-loop μ-loop
-find-byte-requires-2 c κs = search needs
+find-lf-requires-2 : tie.Need-find-lf-requires-2 Inv-loop μ-loop
+find-lf-requires-2 c κs = search needs
 
 loop-less : tie.Need-loop-less Inv-loop μ-loop
 loop-less c = search needs
@@ -115,7 +115,7 @@ loop-again c =
     turn s (l .loop .at) (l .loop .pos) k (l .loop .inv .0) (omega arith) (l .loop .inv .4)
     (l .loop .out) len n (omega arith) (omega arith) refl in
     let r : a .n - c .before .before .before .fold-to .result ≡ k - n = omega arith in (
-      c .find-byte2 .ensures,
+      c .find-lf2 .ensures,
       omega arith,
       omega arith,
       search needs,
@@ -152,7 +152,7 @@ summarise-into-spec =
     (tie.spec
     Inv-loop
     μ-loop
-    find-byte-requires
+    find-lf-requires
     loop-holds
     same-length
     returns
@@ -161,7 +161,7 @@ summarise-into-spec =
     part-fold-to-end
     fold-to-requires
     add-at
-    find-byte-requires-2
+    find-lf-requires-2
     loop-less
     loop-again
     sub-copy-to

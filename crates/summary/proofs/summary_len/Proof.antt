@@ -55,8 +55,8 @@ Inv-loop message len₀ kept₀ at₀ pos₀ len kept at pos =
 abbrev μ-loop : tie.MeasureT-loop
 μ-loop message len₀ kept₀ at₀ pos₀ len kept at pos = length message - at
 
-find-byte-requires : tie.Need-find-byte-requires Inv-loop μ-loop
-find-byte-requires c κs = search needs
+find-lf-requires : tie.Need-find-lf-requires Inv-loop μ-loop
+find-lf-requires c κs = search needs
 
 loop-holds : tie.Need-loop-holds Inv-loop μ-loop
 loop-holds c = search needs
@@ -109,8 +109,8 @@ add-len-2 c =
 add-at : tie.Need-add-at Inv-loop μ-loop
 add-at c = search needs
 
-find-byte-requires-2 : tie.Need-find-byte-requires-2 Inv-loop μ-loop
-find-byte-requires-2 c κs = search needs
+find-lf-requires-2 : tie.Need-find-lf-requires-2 Inv-loop μ-loop
+find-lf-requires-2 c κs = search needs
 
 loop-less : tie.Need-loop-less Inv-loop μ-loop
 loop-less c = search needs
@@ -167,7 +167,7 @@ summary-len-spec =
     (tie.spec
     Inv-loop
     μ-loop
-    find-byte-requires
+    find-lf-requires
     loop-holds
     returns
     sub-piece
@@ -179,7 +179,7 @@ summary-len-spec =
     add-len
     add-len-2
     add-at
-    find-byte-requires-2
+    find-lf-requires-2
     loop-less
     loop-again
     sub-result

@@ -1,0 +1,2 @@
+-- Laws of runs without an LF.
+pub mod Runs

@@ -1,0 +1,56 @@
+-- Runs without an LF: a search goes on behind them, forward and backward. Assumes nothing.
+use mathlib.Core.Bool.{Bool, true, false, false≢true, not, _||_}
+use mathlib.Core.List.{List, [], _∷_}
+use mathlib.Core.Path.{_≡_, refl, sym, ap, _∙_}
+use Prim.Native.Nat.{ℕ, zero, suc, _+_, _≤_, _<_}
+use native.Mathlib.Omega.{arith}
+use lib.ListN.{length, take, drop, getD, length-append}
+use lib.Seq.{drop-cons}
+use Rattle.rules.proofs.Lists.{run-past}
+use Rattle.rules.specs.Lists.{if_then_else_, any, past, run}
+use Rattle.find.specs.Find.{behindLF, isLF, untilLF}
+
+or-comm : (a b : Bool) → (a || b) ≡ (b || a)
+or-comm true true = refl
+or-comm true false = refl
+or-comm false true = refl
+or-comm false false = refl
+
+or-assoc : (a b d : Bool) → (a || (b || d)) ≡ ((a || b) || d)
+or-assoc true b d = refl
+or-assoc false b d = refl
+
+or-none : (a b : Bool) → (a || b) ≡ false → (a ≡ false) × (b ≡ false)
+or-none true b e = absurd (false≢true (sym e))
+or-none false b e = (refl, e)
+
+-- one byte more of a run
+pub any-next : (p : ℕ → Bool) (s : List ℕ) (i : ℕ) → i < length s → any p (take (suc i) s) ≡ (any p (take i s) || p (getD s i 0))
+any-next p [] i h = absurd (omega arith)
+any-next p (x ∷ s) zero h = or-comm (p x) false
+any-next p (x ∷ s) (suc i) h = ap (λ (b : Bool). p x || b) (any-next p s i (omega arith)) ∙ or-assoc (p x) (any p (take i s)) (p (getD s i 0))
+
+-- a run is a part of what is searched: of `k` bytes from `i` on
+pub past-run : (k : ℕ) (s : List ℕ) (i : ℕ) → i + k ≤ length s → any isLF (take k (drop i s)) ≡ false
+    → i + untilLF (drop i s) ≡ i + k + untilLF (drop (i + k) s)
+past-run zero s i h e = let n : i ≡ i + 0 = omega arith in ap (λ (j : ℕ). j + untilLF (drop j s)) n
+past-run (suc k) s i h e =
+    let d = drop-cons s i 0 (omega arith) in
+    let n = or-none (isLF (getD s i 0)) (any isLF (take k (drop (suc i) s))) (rw d at e) in
+    let size : i + suc k ≡ suc i + k = omega arith in
+    rw (size, d, n .0) (omega (arith, past-run k s (suc i) (omega arith) (n .1)))
+
+pub before-run : (k : ℕ) (s : List ℕ) (i : ℕ) → i + k ≤ length s → any isLF (take k (drop i s)) ≡ false → behindLF s i ≡ behindLF s (i + k)
+unfolding behindLF
+before-run zero s i h e = let n : i ≡ i + 0 = omega arith in ap (behindLF s) n
+before-run (suc k) s i h e =
+    let n = or-none (isLF (getD s i 0)) (any isLF (take k (drop (suc i) s))) (rw (drop-cons s i 0 (omega arith)) at e) in
+    let later : behindLF s (suc i) ≡ behindLF s (suc i + k) = before-run k s (suc i) (omega arith) (n .1) in
+    let size : i + suc k ≡ suc i + k = omega arith in
+    rw size (rw (n .0) at later)
+
+-- an LF is looked for in what is there
+pub until-within : (s : List ℕ) → untilLF s ≤ length s
+until-within s =
+    let p : ℕ → Bool = λ c. not (isLF c) in
+    omega (arith, length-append (run p s) (past p s), ap length (run-past p s))

@@ -1,0 +1,68 @@
+-- `find::before_runs` meets its contract. The invariant: a search back from `i` finds what one from `end` finds. Assumes nothing.
+use mathlib.Core.Bool.{false}
+use mathlib.Core.Path.{_≡_, sym, _∙_}
+use Prim.Native.Nat.{_+_, _-_, _≤_}
+use native.Mathlib.Omega.{arith}
+use borrow.Author.Needs.{needs}
+use lib.ListN.{take, drop}
+use Rattle.rules.specs.Lists.{any}
+use Rattle.find.specs.Find.{behindLF, isLF}
+use Rattle.find.proofs.Runs.{before-run}
+use Rattle.find.proofs.before_runs.Statement.{statement}
+use Rattle.find.proofs.before_runs.Tie as tie
+
+abbrev Inv-loop : tie.InvT-loop
+Inv-loop s end i₀ i = (i ≤ end) × (behindLF s i ≡ behindLF s end)
+
+abbrev μ-loop : tie.MeasureT-loop
+μ-loop s end i₀ i = i
+
+loop-holds : tie.Need-loop-holds Inv-loop μ-loop
+loop-holds c = search needs
+
+sub-has-lf : tie.Need-sub-has-lf Inv-loop μ-loop
+sub-has-lf c = search needs
+
+part-has-lf-start : tie.Need-part-has-lf-start Inv-loop μ-loop
+part-has-lf-start c = search needs
+
+part-has-lf-end : tie.Need-part-has-lf-end Inv-loop μ-loop
+part-has-lf-end c = search needs
+
+has-lf-requires : tie.Need-has-lf-requires Inv-loop μ-loop
+has-lf-requires c κs = search needs
+
+returns : tie.Need-returns Inv-loop μ-loop
+returns c = c .before .before .before .before .loop .inv
+
+loop-less : tie.Need-loop-less Inv-loop μ-loop
+loop-less c = search needs
+
+loop-again : tie.Need-loop-again Inv-loop μ-loop
+loop-again c =
+    let l = c .before .before .before .before in
+    let s = l .before .before .args .s .now in
+    let i = l .loop .i in
+    let size : i - (i - 16) ≡ 16 = omega arith in
+    let end : i - 16 + 16 ≡ i = omega arith in
+    let none : any isLF (take 16 (drop (i - 16) s)) ≡ false = rw size at (sym (c .before .has-lf .ensures) ∙ c .if1 .left) in
+    (omega arith, (rw end at (before-run 16 s (i - 16) (omega arith) none)) ∙ l .loop .inv .1)
+
+returns-2 : tie.Need-returns-2 Inv-loop μ-loop
+returns-2 c = c .before .loop .inv
+
+pub before-runs-spec : {M : Type 1} → statement M
+before-runs-spec =
+    tie.close
+    (tie.spec
+    Inv-loop
+    μ-loop
+    loop-holds
+    sub-has-lf
+    part-has-lf-start
+    part-has-lf-end
+    has-lf-requires
+    returns
+    loop-less
+    loop-again
+    returns-2)
