@@ -6,6 +6,8 @@ ghost use Rattle.rules.specs.Division.{blocksFrom};
 ghost use Rattle.block.specs.Step.{messageLength, nextBlock, partLength};
 use text::line::line_len;
 use trailer::line::TrailerAtStart;
+use trailer::line::TrailerLine;
+use trailer::line::parse_trailer_line;
 use trailer::line::trailer_at_start;
 
 // Of `next_block_from`: the message runs up to `message_end`, the trailer part from there to `end`.
@@ -31,11 +33,10 @@ fn message_len(cursor: &[u8]) -> usize
     let mut len = 0;
     while len < cursor.len() {
         let rest = &cursor[len..];
-        if let TrailerAtStart::Trailer {
+        if let TrailerLine::At {
             token_end: _,
             separator: _,
-            len: _,
-        } = trailer_at_start(rest) {
+        } = parse_trailer_line(rest) {
             return len;
         }
         len += line_len(rest);

@@ -5,7 +5,7 @@ use Prim.Native.Nat.{ℕ, zero, suc, _+_, _-_, _≤_, _<_}
 use native.Mathlib.Numerals.{add-one, unary-clauses}
 use native.Mathlib.Omega.{arith}
 use lib.ListN.{length, take, drop, set, length-append, length-drop, take-append-drop}
-use lib.Seq.{length-take-le, take-at, drop-at, drop-drop, set-split}
+use lib.Seq.{length-take-le, paste, take-at, take-length, drop-at, drop-drop, set-split}
 use Rattle.summary.specs.Put.{put}
 
 pub put-length : (d w : List ℕ) (at : ℕ) → at + length w ≤ length d → length (put d at w) ≡ length d
@@ -23,6 +23,10 @@ put-put d v w at h =
 
 pub put-none : (d : List ℕ) (at : ℕ) → put d at [] ≡ d
 put-none d at = simp unary-clauses (take-append-drop at d)
+
+-- all of `w` copied
+pub put-all : (d w : List ℕ) (at : ℕ) → paste d at w (length w) ≡ put d at w
+put-all d w at = rw take-length (append-assoc (take at d) w (drop (at + length w) d))
 
 -- a byte behind what is written
 put-one : (d : List ℕ) (at b : ℕ) → at < length d → set d at b ≡ put d at (b ∷ [])

@@ -10,6 +10,7 @@ ghost use Rattle.rules.specs.Answers.{afterwards, valueFoundSays, writtenAnswer
 ghost use Rattle.rules.specs.Lists.{run};
 ghost use Rattle.rules.specs.Summary.{dropBlanks, folded, pieces, spaced, many};
 ghost use Rattle.summary.specs.Put.{put};
+use copy::copy_at;
 use find::find_lf;
 use rules::Part;
 use rules::Refusal;
@@ -70,15 +71,13 @@ fn copy_to(src: &[u8], out: &mut [u8], at: usize, end: usize) -> usize
     ensures { λ r. ⌜ r ≡ at + length (take (end - at) (now (src .entry))) ⌝ }
     ensures { λ _. ⌜ now (out .exit) ≡ put (now (out .entry)) at (take (end - at) (now (src .entry))) ⌝ }
 {
-    let mut j = 0;
-    while j < src.len() {
-        if at + j == end {
-            return end;
-        }
-        out[at + j] = src[j];
-        j += 1;
+    let room = end - at;
+    if room < src.len() {
+        copy_at(&src[..room], out, at);
+        return end;
     }
-    at + j
+    copy_at(src, out, at);
+    at + src.len()
 }
 
 // Writes `piece` folded, in the same way.

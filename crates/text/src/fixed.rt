@@ -34,19 +34,19 @@ pub fn to_ascii_lowercase(byte: u8) -> u8
     byte + 32
 }
 
-// Whether two byte strings are the same, ASCII case aside.
+// Whether two byte strings are the same, ASCII case aside. Strings of one length are read to their end, so that the compiler
+// compares many bytes at once.
 pub fn eq_ignore_ascii_case(a: &[u8], b: &[u8]) -> bool
     ensures { λ r. ⌜ r ≡ same (now (a .entry)) (now (b .entry)) ⌝ }
 {
     if a.len() != b.len() {
         return false;
     }
+    let mut alike = true;
     let mut i = 0;
     while i < a.len() {
-        if to_ascii_lowercase(a[i]) != to_ascii_lowercase(b[i]) {
-            return false;
-        }
+        alike = alike & (to_ascii_lowercase(a[i]) == to_ascii_lowercase(b[i]));
         i += 1;
     }
-    true
+    alike
 }

@@ -3,7 +3,7 @@ ghost use mathlib.Core.Path.{_≡_};
 ghost use Prim.Native.Nat.{_≤_};
 ghost use lib.ListN.{length};
 ghost use Rattle.rules.specs.Bytes.{blankByte};
-ghost use Rattle.rules.specs.Lines.{folds, indented, lines, text, without};
+ghost use Rattle.rules.specs.Lines.{indented, lines, text, without};
 ghost use Rattle.rules.specs.Lists.{all};
 ghost use Rattle.text.specs.Lines.{firstLength, lineStart};
 use find::behind_lf;
@@ -82,14 +82,4 @@ pub fn is_indented(line: &[u8]) -> bool
         return false;
     }
     is_ascii_whitespace(line[0])
-}
-
-// Whether a line is indented and not blank, so that it may go on with a trailer's value.
-pub fn is_fold(line: &[u8]) -> bool
-    ensures { λ r. ⌜ r ≡ folds (now (line .entry)) ⌝ }
-{
-    if !is_indented(line) {
-        return false;
-    }
-    !is_blank_line(line)
 }

@@ -7,7 +7,8 @@ ghost use Rattle.rules.specs.Lines.{folds, lines};
 ghost use Rattle.rules.specs.Lists.{join, run};
 ghost use Rattle.rules.specs.Trailer.{tokenIn};
 ghost use Rattle.trailer.specs.Line.{atStart, parsed};
-use text::line::is_fold;
+use text::line::is_blank_line;
+use text::line::is_indented;
 use text::line::line_len;
 
 // Of `parse_trailer_line`: where the token ends and where the colon stands.
@@ -111,9 +112,9 @@ fn folds_len(rest: &[u8]) -> usize
     ensures { λ r. ⌜ r ≡ length (join (run folds (lines (now (rest .entry))))) ⌝ }
 {
     let mut len = 0;
-    while len < rest.len() {
+    while is_indented(&rest[len..]) {
         let end = len + line_len(&rest[len..]);
-        if !is_fold(&rest[len..end]) {
+        if is_blank_line(&rest[len..end]) {
             return len;
         }
         len = end;

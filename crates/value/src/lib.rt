@@ -4,12 +4,12 @@ ghost use mathlib.Core.List.{[], _∷_, _++_};
 ghost use mathlib.Core.Path.{_≡_};
 ghost use Prim.Native.Nat.{_+_, _-_, _≤_, _<_, _^_};
 ghost use lib.ListN.{length, take, drop};
-ghost use lib.Seq.{paste};
 ghost use Rattle.rules.specs.Answers.{afterwards, valueFoundSays, writtenAnswer};
 ghost use Rattle.rules.specs.Trailer.{bySpaces, unfolded, valueIsWritten};
 ghost use Rattle.rules.specs.White.{trim};
 ghost use Rattle.value.specs.Joined.{joinedLength};
 ghost use Rattle.value.specs.Value.{valueAnswer, valueBuffer};
+use copy::copy_at;
 use rules::Part;
 use rules::Refusal;
 use rules::Value;
@@ -61,18 +61,6 @@ pub fn unfolded_len(value: &[u8]) -> usize
         at = end;
     }
     len
-}
-
-// Copies all of `src` into `out` from `at` on.
-fn copy_at(src: &[u8], out: &mut [u8], at: usize)
-    requires { ⌜ at + length (now src) ≤ length (now out) ⌝ }
-    ensures { λ _. ⌜ now (out .exit) ≡ paste (now (out .entry)) at (now (src .entry)) (length (now (src .entry))) ⌝ }
-{
-    let mut i = 0;
-    while i < src.len() {
-        out[at + i] = src[i];
-        i += 1;
-    }
 }
 
 // Joins `line` by one space to the first `len` bytes of `out`, where neither is empty, and answers the length.

@@ -1,11 +1,12 @@
 -- `block::message_len` meets its contract. The invariant: the message from the front on is what is passed and the message
 -- from `len` on. Assumes nothing.
-use mathlib.Core.Path.{_≡_, sym, _∙_}
+use mathlib.Core.Path.{_≡_, refl, sym, _∙_}
 use Prim.Native.Nat.{_+_, _-_, _≤_}
 use native.Mathlib.Omega.{arith}
 use borrow.Author.Needs.{needs}
 use lib.ListN.{length, drop, drop-of-length-le}
 use Rattle.text.proofs.ByLines.{line-some, line-within}
+use Rattle.trailer.proofs.AtStart.{no-trailer-there, trailer-there}
 use Rattle.block.specs.Step.{messageLength}
 use Rattle.block.proofs.Step.{message-ends, message-line}
 use Rattle.block.proofs.message_len.Statement.{statement}
@@ -29,8 +30,8 @@ part-rest-start c = search needs
 part-rest-end : tie.Need-part-rest-end Inv-loop μ-loop
 part-rest-end c = search needs
 
-trailer-at-start-requires : tie.Need-trailer-at-start-requires Inv-loop μ-loop
-trailer-at-start-requires c κs = search needs
+parse-trailer-line-requires : tie.Need-parse-trailer-line-requires Inv-loop μ-loop
+parse-trailer-line-requires c κs = search needs
 
 enum-told : tie.Need-enum-told Inv-loop μ-loop
 enum-told c = search needs
@@ -38,8 +39,8 @@ enum-told c = search needs
 returns : tie.Need-returns Inv-loop μ-loop
 returns c =
     let l = c .before .before .before .before .before in
-    let found = sym (c .before .before .trailer-at-start .ensures) ∙ c .enum-told .given .1 in
-    omega (arith, message-ends (l .before .before .args .cursor .now) (l .loop .len) found)
+    let found = sym (c .before .before .parse-trailer-line .ensures) ∙ c .enum-told .given .1 in
+    omega (arith, message-ends (l .before .before .args .cursor .now) (l .loop .len) (trailer-there _ _ found refl))
 
 enum-told-2 : tie.Need-enum-told-2 Inv-loop μ-loop
 enum-told-2 c = search needs
@@ -64,8 +65,8 @@ loop-again c =
     let l = c .before .before .before .before .before .before in
     let s = l .before .before .args .cursor .now in
     let e = c .line-len .ensures in
-    let none = sym (c .before .before .before .trailer-at-start .ensures) ∙ c .before .enum-told2 .given .1 in
-    (line-within s (l .loop .len) _ (omega arith) e, omega (arith, message-line s (l .loop .len) _ (omega arith) none e))
+    let none = sym (c .before .before .before .parse-trailer-line .ensures) ∙ c .before .enum-told2 .given .1 in
+    (line-within s (l .loop .len) _ (omega arith) e, omega (arith, message-line s (l .loop .len) _ (omega arith) (no-trailer-there _ none) e))
 
 returns-2 : tie.Need-returns-2 Inv-loop μ-loop
 returns-2 c =
@@ -83,7 +84,7 @@ message-len-spec =
     sub-rest
     part-rest-start
     part-rest-end
-    trailer-at-start-requires
+    parse-trailer-line-requires
     enum-told
     returns
     enum-told-2

@@ -1,5 +1,5 @@
--- `text::fixed::eq_ignore_ascii_case` meets its contract. The invariant: what is left of the two is the same just where they
--- are, ASCII case aside. Assumes nothing.
+-- `text::fixed::eq_ignore_ascii_case` meets its contract. The invariant: the two are the same, ASCII case aside, just where they
+-- were alike so far and what is left of them is the same. Assumes nothing.
 use mathlib.Core.Bool.{Bool, true, false, _&&_}
 use mathlib.Core.List.{List, [], _∷_, map}
 use mathlib.Core.Path.{_≡_, refl, sym, ap, _∙_}
@@ -7,7 +7,6 @@ use Prim.Native.Nat.{ℕ, suc, _+_, _-_, _≤_, _<_}
 use native.Mathlib.Numerals.{add-one}
 use native.Mathlib.Omega.{arith}
 use borrow.Author.Needs.{needs}
-use borrow.Author.Tests.{eq-eqb, ne-eqb}
 use lib.Dec.{eqb}
 use lib.ListN.{length, drop, getD, drop-of-length-le, length-map}
 use lib.Seq.{drop-cons}
@@ -27,20 +26,28 @@ differ : (a b : List ℕ) → (length a ≡ length b → ⊥) → same a b ≡ f
 unfolding same
 differ a b n = longer (map lower a) (map lower b) (λ e. n (simp length-map at e))
 
-step : (a b : List ℕ) (i : ℕ) (t : Bool) → i < length a → i < length b → eqb (lower (getD a i 0)) (lower (getD b i 0)) ≡ t
-    → same (drop i a) (drop i b) ≡ t && same (drop (i + 1) a) (drop (i + 1) b)
+and-true : (x : Bool) → x && true ≡ x
+and-true true = refl
+and-true false = refl
+
+and-assoc : (x t w : Bool) → x && (t && w) ≡ (x && t) && w
+and-assoc true t w = refl
+and-assoc false t w = refl
+
+step : (a b : List ℕ) (i x y : ℕ) (alike : Bool) → i < length a → i < length b → x ≡ lower (getD a i 0) → y ≡ lower (getD b i 0)
+    → alike && same (drop i a) (drop i b) ≡ (alike && eqb x y) && same (drop (i + 1) a) (drop (i + 1) b)
 unfolding same
-step a b i t h k e = rw (add-one i, drop-cons a i 0, drop-cons b i 0, e)
+step a b i x y alike h k p q = rw (add-one i, drop-cons a i 0, drop-cons b i 0, p, q) (and-assoc alike _ _)
 
 over : (a b : List ℕ) (i : ℕ) → length a ≤ i → length b ≤ i → same (drop i a) (drop i b) ≡ true
 unfolding same
 over a b i h k = rw (drop-of-length-le a h, drop-of-length-le b k)
 
 abbrev Inv-loop : tie.InvT-loop
-Inv-loop a b i₀ i = (i ≤ length a) × (same a b ≡ same (drop i a) (drop i b))
+Inv-loop a b alike₀ i₀ alike i = (i ≤ length a) × (same a b ≡ alike && same (drop i a) (drop i b))
 
 abbrev μ-loop : tie.MeasureT-loop
-μ-loop a b i₀ i = length a - i
+μ-loop a b alike₀ i₀ alike i = length a - i
 
 returns : tie.Need-returns Inv-loop μ-loop
 returns c = sym (differ (c .before .before .before .args .a .now) (c .before .before .before .args .b .now) (c .if1 .taken))
@@ -62,17 +69,6 @@ shared-slice-read-to-ascii-lowercase-2 c = search needs
 to-ascii-lowercase-requires-2 : tie.Need-to-ascii-lowercase-requires-2 Inv-loop μ-loop
 to-ascii-lowercase-requires-2 c κs = search needs
 
-returns-2 : tie.Need-returns-2 Inv-loop μ-loop
-returns-2 c =
-    let l = c .before .before .before .before .before .before in
-    let a = l .before .before .before .before .args .a .now in
-    let b = l .before .before .before .before .args .b .now in
-    let i = l .loop .i in
-    let x = c .before .before .before .to-ascii-lowercase .ensures in
-    let y = c .before .to-ascii-lowercase2 .ensures in
-    let t : eqb (lower (getD a i 0)) (lower (getD b i 0)) ≡ false = ne-eqb _ _ (λ e. c .if2 .taken (x ∙ e ∙ sym y)) in
-    sym (l .loop .inv .1 ∙ step a b i false (omega arith) (omega arith) t)
-
 add-i : tie.Need-add-i Inv-loop μ-loop
 add-i c = search needs
 
@@ -81,20 +77,18 @@ loop-less c = search needs
 
 loop-again : tie.Need-loop-again Inv-loop μ-loop
 loop-again c =
-    let l = c .before .before .before .before .before .before in
+    let l = c .before .before .before .before .before in
     let a = l .before .before .before .before .args .a .now in
     let b = l .before .before .before .before .args .b .now in
-    let i = l .loop .i in
-    let x = c .before .before .before .to-ascii-lowercase .ensures in
-    let y = c .before .to-ascii-lowercase2 .ensures in
-    let t : eqb (lower (getD a i 0)) (lower (getD b i 0)) ≡ true = eq-eqb _ _ (sym x ∙ c .if2 .left ∙ y) in
-    (search needs, l .loop .inv .1 ∙ step a b i true (omega arith) (omega arith) t)
+    let x = c .before .before .to-ascii-lowercase in
+    let y = c .to-ascii-lowercase2 in
+    (search needs, l .loop .inv .1 ∙ step a b (l .loop .i) (x .result) (y .result) (l .loop .alike) (omega arith) (omega arith) (x .ensures) (y .ensures))
 
-returns-3 : tie.Need-returns-3 Inv-loop μ-loop
-returns-3 c =
+returns-2 : tie.Need-returns-2 Inv-loop μ-loop
+returns-2 c =
     let a = c .before .before .before .before .before .args .a .now in
     let b = c .before .before .before .before .before .args .b .now in
-    sym (c .before .loop .inv .1 ∙ over a b (c .before .loop .i) (c .loop-test .left) (omega arith))
+    sym (c .before .loop .inv .1 ∙ rw (over a b (c .before .loop .i) (c .loop-test .left) (omega arith)) (and-true (c .before .loop .alike)))
 
 pub eq-ignore-ascii-case-spec : {M : Type 1} → statement M
 eq-ignore-ascii-case-spec =
@@ -108,8 +102,7 @@ eq-ignore-ascii-case-spec =
     to-ascii-lowercase-requires
     shared-slice-read-to-ascii-lowercase-2
     to-ascii-lowercase-requires-2
-    returns-2
     add-i
     loop-less
     loop-again
-    returns-3)
+    returns-2)

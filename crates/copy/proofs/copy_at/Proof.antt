@@ -1,4 +1,4 @@
--- `value::copy_at` meets its contract. The invariant: the first `i` bytes of `src` are in `out`. Assumes nothing.
+-- `copy::copy_at` meets its contract. The invariant: the first `i` bytes of `src` are in `out`. Assumes nothing.
 use mathlib.Core.Path.{_≡_, refl}
 use Prim.Native.Nat.{_-_, _≤_}
 use native.Mathlib.Numerals.{add-one}
@@ -6,8 +6,8 @@ use native.Mathlib.Omega.{arith}
 use borrow.Author.Needs.{needs}
 use lib.ListN.{length, length-set}
 use lib.Seq.{paste, paste-zero, paste-suc}
-use Rattle.value.proofs.copy_at.Statement.{statement}
-use Rattle.value.proofs.copy_at.Tie as tie
+use Rattle.copy.proofs.copy_at.Statement.{statement}
+use Rattle.copy.proofs.copy_at.Tie as tie
 
 abbrev Inv-loop : tie.InvT-loop
 Inv-loop src out₀ at i₀ out i = (i ≤ length src) × (length out ≡ length out₀) × (out ≡ paste out₀ at src i)
