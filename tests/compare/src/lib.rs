@@ -11,6 +11,8 @@
 //! ends at the first input on which the two disagree and makes it small; `answers::difference` names the field.
 
 pub mod answers;
+#[cfg(feature = "archive")]
+pub mod archive;
 pub mod buffers;
 pub mod git;
 pub mod inputs;

@@ -1,0 +1,184 @@
+//! The port's calls, as include/sluicepod.h declares them, over slices. No other module of this library has unsafe code.
+//!
+//! What the header asks of a caller holds of every slice: its pointer is good for its length and is never null, and no
+//! two that are lent at once overlap where one of them is written to.
+
+/// How many entries a result must have.
+pub const RESULT_LEN: usize = 7;
+
+/// The codes.
+pub const OK: u32 = 0;
+pub const TOO_LONG: u32 = 1;
+pub const BAD_PLACE: u32 = 2;
+pub const NO_ROOM: u32 = 3;
+pub const NO_KIND: u32 = 254;
+pub const SHORT_RESULT: u32 = 255;
+
+/// The kinds of token.
+pub const ALL: u32 = 0;
+pub const SIGNED_OFF_BY: u32 = 1;
+pub const CO_AUTHORED_BY: u32 = 2;
+pub const ASSISTED_BY: u32 = 3;
+pub const ACKED_BY: u32 = 4;
+pub const REVIEWED_BY: u32 = 5;
+pub const TESTED_BY: u32 = 6;
+pub const ATTRIBUTION: u32 = 7;
+pub const AUTHOR: u32 = 8;
+
+mod declared {
+    extern "C" {
+        pub fn sluicepod_title_and_body(
+            message: *const u8,
+            message_len: usize,
+            result: *mut usize,
+            result_len: usize,
+        ) -> u32;
+        pub fn sluicepod_summary(
+            title: *const u8,
+            title_len: usize,
+            out: *mut u8,
+            out_len: usize,
+            result: *mut usize,
+            result_len: usize,
+        ) -> u32;
+        pub fn sluicepod_message_summary(
+            message: *const u8,
+            message_len: usize,
+            out: *mut u8,
+            out_len: usize,
+            result: *mut usize,
+            result_len: usize,
+        ) -> u32;
+        pub fn sluicepod_block_start(body: *const u8, body_len: usize, result: *mut usize, result_len: usize) -> u32;
+        pub fn sluicepod_message_trailers(
+            message: *const u8,
+            message_len: usize,
+            result: *mut usize,
+            result_len: usize,
+        ) -> u32;
+        pub fn sluicepod_next_trailer(
+            body: *const u8,
+            body_len: usize,
+            at: usize,
+            kind: u32,
+            out: *mut u8,
+            out_len: usize,
+            result: *mut usize,
+            result_len: usize,
+        ) -> u32;
+        pub fn sluicepod_find_trailer(
+            body: *const u8,
+            body_len: usize,
+            name: *const u8,
+            name_len: usize,
+            out: *mut u8,
+            out_len: usize,
+            result: *mut usize,
+            result_len: usize,
+        ) -> u32;
+        pub fn sluicepod_next_block(
+            body: *const u8,
+            body_len: usize,
+            at: usize,
+            start: usize,
+            result: *mut usize,
+            result_len: usize,
+        ) -> u32;
+        pub fn sluicepod_is_of_kind(
+            input: *const u8,
+            input_len: usize,
+            start: usize,
+            end: usize,
+            kind: u32,
+            result: *mut usize,
+            result_len: usize,
+        ) -> u32;
+    }
+}
+
+pub fn title_and_body(message: &[u8], result: &mut [usize]) -> u32 {
+    // SAFETY: slices are what the header asks for; so below.
+    unsafe { declared::sluicepod_title_and_body(message.as_ptr(), message.len(), result.as_mut_ptr(), result.len()) }
+}
+
+pub fn summary(title: &[u8], out: &mut [u8], result: &mut [usize]) -> u32 {
+    unsafe {
+        declared::sluicepod_summary(
+            title.as_ptr(),
+            title.len(),
+            out.as_mut_ptr(),
+            out.len(),
+            result.as_mut_ptr(),
+            result.len(),
+        )
+    }
+}
+
+pub fn message_summary(message: &[u8], out: &mut [u8], result: &mut [usize]) -> u32 {
+    unsafe {
+        declared::sluicepod_message_summary(
+            message.as_ptr(),
+            message.len(),
+            out.as_mut_ptr(),
+            out.len(),
+            result.as_mut_ptr(),
+            result.len(),
+        )
+    }
+}
+
+pub fn block_start(body: &[u8], result: &mut [usize]) -> u32 {
+    unsafe { declared::sluicepod_block_start(body.as_ptr(), body.len(), result.as_mut_ptr(), result.len()) }
+}
+
+pub fn message_trailers(message: &[u8], result: &mut [usize]) -> u32 {
+    unsafe { declared::sluicepod_message_trailers(message.as_ptr(), message.len(), result.as_mut_ptr(), result.len()) }
+}
+
+pub fn next_trailer(body: &[u8], at: usize, kind: u32, out: &mut [u8], result: &mut [usize]) -> u32 {
+    unsafe {
+        declared::sluicepod_next_trailer(
+            body.as_ptr(),
+            body.len(),
+            at,
+            kind,
+            out.as_mut_ptr(),
+            out.len(),
+            result.as_mut_ptr(),
+            result.len(),
+        )
+    }
+}
+
+pub fn find_trailer(body: &[u8], name: &[u8], out: &mut [u8], result: &mut [usize]) -> u32 {
+    unsafe {
+        declared::sluicepod_find_trailer(
+            body.as_ptr(),
+            body.len(),
+            name.as_ptr(),
+            name.len(),
+            out.as_mut_ptr(),
+            out.len(),
+            result.as_mut_ptr(),
+            result.len(),
+        )
+    }
+}
+
+pub fn next_block(body: &[u8], at: usize, start: usize, result: &mut [usize]) -> u32 {
+    unsafe { declared::sluicepod_next_block(body.as_ptr(), body.len(), at, start, result.as_mut_ptr(), result.len()) }
+}
+
+pub fn is_of_kind(input: &[u8], start: usize, end: usize, kind: u32, result: &mut [usize]) -> u32 {
+    unsafe {
+        declared::sluicepod_is_of_kind(
+            input.as_ptr(),
+            input.len(),
+            start,
+            end,
+            kind,
+            result.as_mut_ptr(),
+            result.len(),
+        )
+    }
+}

@@ -1,0 +1,82 @@
+//! Times the original and the port on the same inputs, in one run.
+//!
+//!     bench              a line for each call on each shape: nanoseconds of both, and how many times faster the port is
+//!     bench --markdown   these ratios in two tables, a row for each shape
+//!
+//! The two sides take turns; the figures are medians over the rounds. Before a call is timed, both must answer alike.
+
+mod calls;
+#[cfg(feature = "libgit2")]
+mod libgit2;
+mod race;
+mod shapes;
+mod sides;
+
+use std::{env, process::ExitCode};
+
+use crate::{
+    calls::{of_body, of_message, Row},
+    shapes::Shape,
+};
+
+fn main() -> ExitCode {
+    #[cfg(feature = "libgit2")]
+    libgit2::ready();
+    let words: Vec<String> = env::args().skip(1).collect();
+    match &words.iter().map(String::as_str).collect::<Vec<_>>()[..] {
+        [] => plain(&shapes::all()),
+        ["--markdown"] => markdown(&shapes::all()),
+        _ => {
+            eprintln!("bench: no such option");
+            return ExitCode::FAILURE;
+        }
+    }
+    ExitCode::SUCCESS
+}
+
+fn plain(shapes: &[Shape]) {
+    println!(
+        "{:<34} {:<34} {:>12} {:>12} {:>8}",
+        "call", "shape", "original ns", "ours ns", "ratio"
+    );
+    for shape in shapes {
+        for Row { call, race } in of_message(shape).iter().chain(&of_body(shape)) {
+            println!(
+                "{call:<34} {:<34} {:>12.1} {:>12.1} {:>8.2}",
+                shape.name, race.original, race.ours, race.ratio
+            );
+        }
+    }
+}
+
+fn markdown(shapes: &[Shape]) {
+    table(calls::MESSAGE_CALLS, shapes, of_message);
+    println!();
+    table(calls::BODY_CALLS, shapes, of_body);
+    println!("\n`*` the port needs less than {CALL_NS} ns: this is what a call costs, and hardly anything is read.");
+}
+
+/// Below this time the cost of the call outweighs what it reads.
+const CALL_NS: f64 = 30.0;
+
+/// A row for each shape, a column for each call.
+fn table(calls: &[&str], shapes: &[Shape], rows: fn(&Shape) -> Vec<Row>) {
+    println!("| shape | {} |", calls.join(" | "));
+    println!("|---|{}", "---:|".repeat(calls.len()));
+    for shape in shapes {
+        let rows = rows(shape);
+        if !rows.is_empty() {
+            let cells: Vec<String> = calls.iter().map(|call| cell(&rows, call)).collect();
+            println!("| {} | {} |", shape.name, cells.join(" | "));
+        }
+    }
+}
+
+fn cell(rows: &[Row], call: &str) -> String {
+    let Some(row) = rows.iter().find(|row| row.call == call) else {
+        return String::new();
+    };
+    let digits = if row.race.ratio < 10.0 { 2 } else { 0 };
+    let star = if row.race.ours < CALL_NS { "*" } else { "" };
+    format!("{:.digits$}{star}", row.race.ratio)
+}
