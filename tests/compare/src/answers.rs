@@ -100,7 +100,8 @@ pub const FILTERS: [Filter; 5] = [
     Filter::Authors,
 ];
 
-/// The questions that can be asked of a token.
+/// The questions that can be asked of a token, and how many they are.
+pub const QUESTIONS: usize = 7;
 #[derive(Clone, Copy, Debug, Default, PartialEq, Eq)]
 pub struct Attribution {
     pub signed_off_by: bool,
@@ -122,6 +123,8 @@ pub struct Reading {
     pub summary: Value,
     /// The summary of the whole message.
     pub message_summary: Value,
+    /// Where the walk of its trailers begins; the message's length where it has no body or its body no block.
+    pub message_walk_start: usize,
     /// The trailers of the message, in offsets of the message.
     pub message_trailers: Vec<Trailer>,
     /// The same through each of `FILTERS`.
@@ -145,8 +148,35 @@ pub struct Reading {
     pub as_token: Attribution,
 }
 
-/// The answer of a reader that refuses: a reading, or the number of the refusal.
-pub type Answer = Result<Reading, usize>;
+impl Reading {
+    /// How many single answers it holds: one for each call and for each step of a walk, the step that ends it with it.
+    pub fn answers(&self) -> usize {
+        let walk = |trailers: &Vec<Trailer>| trailers.len() + 1;
+        let filtered = self.message_filtered.iter().chain(&self.filtered);
+        let blocks = self.blocks.iter().map(|block| 1 + walk(&block.trailers));
+        [
+            5, // title and body, two summaries, where the two walks begin
+            walk(&self.message_trailers) + walk(&self.trailers),
+            filtered.map(walk).sum::<usize>(),
+            blocks.sum::<usize>() + 1,
+            QUESTIONS * (self.attributions.len() + 1),
+            self.steps.len() + self.block_steps.len() + self.found.len(),
+        ]
+        .iter()
+        .sum()
+    }
+}
+
+/// Why a reader gives no reading.
+#[derive(Clone, Debug, PartialEq, Eq)]
+pub enum NoReading {
+    /// It refuses, with this number.
+    Refused(usize),
+    /// It does what it says it never does.
+    Broke(String),
+}
+
+pub type Answer = Result<Reading, NoReading>;
 
 /// The places from which `Reading::steps` walks: all of a short input, and a few of a long one.
 pub fn places(len: usize) -> Vec<usize> {
@@ -230,7 +260,7 @@ pub fn difference(left: &Answer, right: &Answer) -> Option<Difference> {
             })*
         };
     }
-    in_order!(title_end body_start summary message_summary message_trailers message_filtered
+    in_order!(title_end body_start summary message_summary message_walk_start message_trailers message_filtered
         block_start trailers filtered attributions blocks steps block_steps found as_token);
     None
 }

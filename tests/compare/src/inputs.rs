@@ -1,5 +1,6 @@
 //! Inputs on which two readers are compared: all short ones over an alphabet for each rule, forms that are near to what
 //! a rule names, random messages near every boundary, damaged copies of them, and inputs around the limit.
+//! `record` takes its list from here too: what it uses, changed, changes the list.
 
 use std::ops::ControlFlow;
 
@@ -455,6 +456,96 @@ pub fn damage(rng: &mut Rng, input: &mut Vec<u8>) {
     }
 }
 
+/// What `runs` puts between its runs.
+const BETWEEN_RUNS: &[&[u8]] = &[
+    b"\n",
+    b"\n",
+    b"\r\n",
+    b"\n\n",
+    b"\r\n\r\n",
+    b"\n ",
+    b"\n\t\n",
+    b":",
+    b": ",
+    b"\nA: ",
+    b"\nSigned-off-by: ",
+    b"\n(cherry picked from commit ",
+    b"",
+];
+
+/// The bytes of a run: plain ones, blanks, and those that differ in one bit from a byte that a rule names.
+const RUN_BYTES: &[u8] = b"aaaaA-0    \t\r\n\x0b\x0c\x8a\x8d\xba\xad\xa0\x1a\x2a\x80\xe2\x00";
+
+/// Runs of one byte of every length up to 40, so that what ends them stands at every place of a machine word.
+pub fn runs(rng: &mut Rng) -> Vec<u8> {
+    let mut out = Vec::new();
+    for _ in 0..1 + rng.below(10) {
+        let byte = RUN_BYTES[rng.below(RUN_BYTES.len())];
+        let longest = if rng.once_in(2) { 3 } else { 40 };
+        out.extend(vec![byte; rng.below(longest + 1)]);
+        out.extend_from_slice(rng.pick(BETWEEN_RUNS));
+    }
+    out
+}
+
+/// A last paragraph of up to sixty lines of the first two kinds, with n others near three times as many.
+pub fn crowded(rng: &mut Rng) -> Vec<u8> {
+    let t = 1 + rng.below(60);
+    let n = (3 * t + rng.below(3)).saturating_sub(1);
+    let mut out = rng.pick(&[&b"t\n\n"[..], b"t\n\nx\n\n", b""]).to_vec();
+    let (mut trailers, mut others) = (t, n);
+    let mut forgiven = false; // an indented line, if it came next
+    while trailers + others > 0 {
+        if rng.once_in(12) && (forgiven || others > 0) {
+            others -= usize::from(!forgiven);
+            line(rng, &mut out, INDENTED_LINES);
+            continue;
+        }
+        forgiven = rng.below(trailers + others) < trailers;
+        let (left, from) = match forgiven {
+            true if rng.once_in(2) => (&mut trailers, RECOGNISED_LINES),
+            true => (&mut trailers, TRAILER_LINES),
+            false => (&mut others, OTHER_LINES),
+        };
+        *left -= 1;
+        line(rng, &mut out, from);
+    }
+    out
+}
+
+/// A message with forms of white space, cut and overlong ones too, put in at any place.
+pub fn with_forms(rng: &mut Rng) -> Vec<u8> {
+    let mut out = structured(rng);
+    for _ in 0..1 + rng.below(4) {
+        let form = match rng.below(3) {
+            0 => rng.pick(&NO_FORMS),
+            _ => rng.pick(&WHITE),
+        };
+        let cut = if rng.once_in(3) { rng.below(form.len()) } else { 0 };
+        let at = rng.below(out.len() + 1);
+        out.splice(at..at, form[cut..].iter().copied());
+    }
+    out
+}
+
+/// Several messages behind each other.
+pub fn joined(rng: &mut Rng) -> Vec<u8> {
+    let mut out = Vec::new();
+    for _ in 0..2 + rng.below(12) {
+        out.extend(structured(rng));
+    }
+    out
+}
+
+/// The kinds of random messages.
+type Random = (&'static str, fn(&mut Rng) -> Vec<u8>);
+const RANDOM: [Random; 4] = [
+    ("runs of a byte", runs),
+    ("many lines near 3t = n", crowded),
+    ("with forms of white space", with_forms),
+    ("several messages", joined),
+];
+
 /// A long input: a unit that is repeated between a front and a foot.
 #[derive(Clone, Copy, Debug)]
 pub struct Shape {
@@ -513,13 +604,16 @@ pub fn long(shape: Shape, len: usize) -> Vec<u8> {
     out
 }
 
+/// How many random feet stand at the limit.
+const FEET: usize = 30;
+
 /// Which inputs a comparison reads.
 #[derive(Clone, Debug)]
 pub struct Plan {
     pub seed: u64,
     /// Pieces more than an alphabet's own depth; negative is fewer.
     pub deeper: isize,
-    /// Random messages, and as many damaged ones.
+    /// Random messages of each kind, and as many damaged ones.
     pub messages: usize,
     /// Whether inputs around the limit are read.
     pub long: bool,
@@ -545,11 +639,22 @@ impl Plan {
             damage(&mut rng, &mut input);
             visit("damaged", &input)?;
         }
+        for (kind, random) in RANDOM {
+            for _ in 0..self.messages {
+                visit(kind, &random(&mut rng))?;
+            }
+        }
         if self.long {
             for &shape in LONG_SHAPES {
                 for len in [LIMIT - 1, LIMIT, LIMIT + 1] {
                     visit("around the limit", &long(shape, len))?;
                 }
+            }
+            for _ in 0..FEET {
+                let foot = structured(&mut rng);
+                let text = LONG_SHAPES[rng.below(LONG_SHAPES.len())];
+                let front = long(text, LIMIT - foot.len());
+                visit("a random foot at the limit", &[front, foot].concat())?;
             }
         }
         ControlFlow::Continue(())
@@ -599,6 +704,18 @@ mod tests {
                 assert!(len < 100 || input.starts_with(shape.front) && input.ends_with(shape.foot));
             }
         }
+    }
+
+    /// n is one less than 3t, 3t and one more equally often: two of three are blocks, save for those without a
+    /// recognised line.
+    #[test]
+    fn crowded_paragraphs_fall_on_both_sides_of_the_rule() {
+        let mut rng = Rng::new(1);
+        let accepted = (0..1_000).filter(|_| {
+            let input = crowded(&mut rng);
+            original::block_start(&input) < input.len()
+        });
+        assert!((600..670).contains(&accepted.count()));
     }
 
     /// What a reading shows of the rules that random messages should reach.

@@ -1,7 +1,7 @@
 //! The original, unchanged, beside Git and beside the port.
 //!
-//! `answers` says what is compared, `original` asks the original for it. A module over the port's archive gives the same
-//! `Answer`; its calls that write go through `buffers::ask`. `inputs` has the inputs. Then
+//! `answers` says what is compared, `original` asks the original for it. `ours` asks the port for the same through
+//! `archive`, the calls that write by way of `buffers`. `inputs` has the inputs, and
 //!
 //! ```text
 //! let plan = Plan { seed: 1, deeper: 0, messages: 100_000, long: true };
@@ -17,5 +17,7 @@ pub mod buffers;
 pub mod git;
 pub mod inputs;
 pub mod original;
+#[cfg(feature = "archive")]
+pub mod ours;
 pub mod rng;
 pub mod search;

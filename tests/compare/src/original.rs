@@ -18,7 +18,8 @@ use original::{
 };
 
 use crate::answers::{
-    block_cursors, names, places, Answer, Attribution, Block, Filter, Part, Reading, Trailer, Value, FILTERS, LIMIT,
+    block_cursors, names, places, Answer, Attribution, Block, Filter, NoReading, Part, Reading, Trailer, Value,
+    FILTERS, LIMIT,
 };
 
 /// The title's end and, where there is a body, the body's start.
@@ -190,6 +191,7 @@ pub fn read(input: &[u8]) -> Reading {
         body_start,
         summary: summary(&input[..title_end]),
         message_summary: message_summary(input),
+        message_walk_start: message_walk_start(input),
         message_filtered: FILTERS.map(|filter| match message_trailers[..] {
             [] => Vec::new(),
             _ => message_through(input, filter, &message_trailers),
@@ -222,7 +224,7 @@ pub fn read(input: &[u8]) -> Reading {
 /// What the port must answer: the original's reading, or the refusal of an input that is over the limit.
 pub fn answer(input: &[u8]) -> Answer {
     if input.len() > LIMIT {
-        return Err(1);
+        return Err(NoReading::Refused(1));
     }
     Ok(read(input))
 }

@@ -2,6 +2,7 @@
 
 use std::hint::black_box;
 
+use compare::answers::Part;
 use original::commit::message::BodyRef;
 
 use crate::{
@@ -92,21 +93,22 @@ pub fn of_body(shape: &Shape) -> Vec<Row> {
     let Some(body) = shape.body.as_deref() else {
         return Vec::new();
     };
+    let mut rows = vec![row(
+        "block start",
+        || theirs::block_start(black_box(body)),
+        || ours::block_start(black_box(body)),
+    )];
+    rows.extend(walks(body));
+    rows.extend(questions(body));
+    rows
+}
+
+/// The walks from the block's start on, which is not looked for anew.
+fn walks(body: &[u8]) -> [Row; 3] {
     let out = &mut vec![0; body.len()][..];
     let parsed = BodyRef::from_bytes(body);
     let start = parsed.without_trailer().len();
-    let trailers: Vec<_> = parsed.trailers().collect();
-    let tokens: Vec<(usize, usize)> = compare::original::trailers(body)
-        .iter()
-        .map(|trailer| (trailer.token.start, trailer.token.end))
-        .collect();
-    let last = tokens.last().map_or(&b"Vehicle"[..], |&(start, end)| &body[start..end]);
-    let mut rows = vec![
-        row(
-            "block start",
-            || theirs::block_start(black_box(body)),
-            || ours::block_start(black_box(body)),
-        ),
+    [
         row(
             "trailer walk",
             || theirs::walk(black_box(parsed).trailers()),
@@ -122,6 +124,20 @@ pub fn of_body(shape: &Shape) -> Vec<Row> {
             || theirs::blocks(black_box(parsed)),
             || ours::blocks(black_box(body), start),
         ),
+    ]
+}
+
+/// The lookup of the last token, or of one that is not there, in a body; and what each of its tokens is.
+fn questions(body: &[u8]) -> Vec<Row> {
+    let out = &mut vec![0; body.len()][..];
+    let trailers: Vec<_> = BodyRef::from_bytes(body).trailers().collect();
+    let tokens: Vec<Part> = compare::original::trailers(body)
+        .iter()
+        .map(|trailer| trailer.token)
+        .collect();
+    let absent = &b"Offload-state"[..];
+    let last = tokens.last().map_or(absent, |token| token.of(body));
+    let mut rows = vec![
         row(
             "find the last name",
             || theirs::find(black_box(body), black_box(last)),
@@ -129,8 +145,8 @@ pub fn of_body(shape: &Shape) -> Vec<Row> {
         ),
         row(
             "find no name",
-            || theirs::find(black_box(body), black_box(b"Offload-state")),
-            || ours::find(black_box(body), black_box(b"Offload-state"), out),
+            || theirs::find(black_box(body), black_box(absent)),
+            || ours::find(black_box(body), black_box(absent), out),
         ),
     ];
     if !tokens.is_empty() {

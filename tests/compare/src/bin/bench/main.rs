@@ -3,7 +3,8 @@
 //!     bench              a line for each call on each shape: nanoseconds of both, and how many times faster the port is
 //!     bench --markdown   these ratios in two tables, a row for each shape
 //!
-//! The two sides take turns; the figures are medians over the rounds. Before a call is timed, both must answer alike.
+//! The two sides take turns; the figures are medians over the rounds. Before anything is timed, the two must agree in all
+//! answers about every shape.
 
 mod calls;
 #[cfg(feature = "libgit2")]
@@ -14,6 +15,8 @@ mod sides;
 
 use std::{env, process::ExitCode};
 
+use compare::{original, ours};
+
 use crate::{
     calls::{of_body, of_message, Row},
     shapes::Shape,
@@ -23,14 +26,25 @@ fn main() -> ExitCode {
     #[cfg(feature = "libgit2")]
     libgit2::ready();
     let words: Vec<String> = env::args().skip(1).collect();
-    match &words.iter().map(String::as_str).collect::<Vec<_>>()[..] {
-        [] => plain(&shapes::all()),
-        ["--markdown"] => markdown(&shapes::all()),
+    let print = match &words.iter().map(String::as_str).collect::<Vec<_>>()[..] {
+        [] => plain,
+        ["--markdown"] => markdown,
         _ => {
             eprintln!("bench: no such option");
             return ExitCode::FAILURE;
         }
+    };
+    let shapes = shapes::all();
+    for shape in &shapes {
+        for input in [Some(&shape.message), shape.body.as_ref()].into_iter().flatten() {
+            assert!(
+                original::answer(input) == ours::answer(input),
+                "{}: the two disagree",
+                shape.name
+            );
+        }
     }
+    print(&shapes);
     ExitCode::SUCCESS
 }
 

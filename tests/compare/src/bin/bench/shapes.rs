@@ -1,8 +1,8 @@
 //! The inputs that are timed.
 
-use compare::{answers::LIMIT, inputs};
+use compare::answers::LIMIT;
 
-/// One input: read as a message, and, where it has one, its body read as a body.
+/// An input that is read as a message, and what is read as a body with it.
 pub struct Shape {
     pub name: String,
     pub message: Vec<u8>,
@@ -91,18 +91,8 @@ Signed-off-by: A U Thor <author@example.com>
 ";
 
 fn over_a_foot(name: &str, len: usize) -> Shape {
-    let mut body = inputs::long(
-        inputs::Shape {
-            name: "",
-            front: b"",
-            unit: TEXT,
-            foot: b"",
-        },
-        len - FOOT.len(),
-    );
-    let end = body.len();
-    body[end - 1] = b'\n';
-    body.extend_from_slice(FOOT);
+    let text = repeated(b"", TEXT, len - FOOT.len());
+    let body = [&text, FOOT].concat();
     Shape {
         name: name.to_owned(),
         message: [b"title\n\n", &body[..]].concat(),

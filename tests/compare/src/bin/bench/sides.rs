@@ -1,5 +1,5 @@
 //! The same questions to the original and to the port. Each gives one number made of everything that it answered, so
-//! that no answer is left unread and the two can be compared.
+//! that no answer is left unread and the two can be compared. None is inlined: a question costs a call on both sides.
 
 /// Takes a part of an answer into the number.
 fn taken(sum: u64, part: &[u8]) -> u64 {
@@ -96,7 +96,10 @@ pub mod theirs {
 
 pub mod ours {
     use super::taken;
-    use compare::archive::{self, ALL, ATTRIBUTION, OK, RESULT_LEN, SIGNED_OFF_BY};
+    use compare::{
+        answers::Part,
+        archive::{self, ALL, ATTRIBUTION, OK, RESULT_LEN, SIGNED_OFF_BY},
+    };
 
     #[inline(never)]
     pub fn title_and_body(message: &[u8]) -> u64 {
@@ -203,11 +206,12 @@ pub mod ours {
     }
 
     #[inline(never)]
-    pub fn attributions(body: &[u8], tokens: &[(usize, usize)]) -> u64 {
+    pub fn attributions(body: &[u8], tokens: &[Part]) -> u64 {
         let mut result = [0; RESULT_LEN];
         let mut sum = 0;
-        for &(start, end) in tokens {
-            assert_eq!(archive::is_of_kind(body, start, end, ATTRIBUTION, &mut result), OK);
+        for token in tokens {
+            let code = archive::is_of_kind(body, token.start, token.end, ATTRIBUTION, &mut result);
+            assert_eq!(code, OK);
             sum += result[1] as u64;
         }
         sum
