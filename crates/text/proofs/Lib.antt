@@ -1,3 +1,4 @@
--- Laws of lines, of parts and of white space, for those who call this crate.
+-- Laws of lines, for those who call this crate, and of comparing.
 pub mod Lines
 pub mod ByLines
+pub mod Alike

@@ -27,11 +27,11 @@ module _ {s d₀ : List ℕ} {at : ℕ} {d : List ℕ} {len : ℕ} (w : Written 
   held : length (take len d) ≡ len
   held = length-take-le len d (omega (arith, w .fits, w .size))
 
-  pub written-end : length s ≤ at → d ≡ unfolded s ++ drop (length (unfolded s)) d₀
+  pub written-end : length s ≤ at → (len ≡ length (unfolded s)) × (d ≡ unfolded s ++ drop (length (unfolded s)) d₀)
   written-end h =
       let front : take len d ≡ unfolded s = half-end (w .half) h in
       let size : len ≡ length (unfolded s) = sym held ∙ ap length front in
-      sym (take-append-drop len d) ∙ rw (front, w .kept, size)
+      (size, sym (take-append-drop len d) ∙ rw (front, w .kept, size))
 
   module _ (n : ℕ) {piece : List ℕ} (h : at < length s) (e : n ≡ firstLength (lines (take (length s - at) (drop at s))))
       (p : piece ≡ trim (take (at + n - at) (drop at s))) (room : length (unfolded s) ≤ length d₀) where

@@ -3,6 +3,7 @@ ghost use mathlib.Core.Bool.{true};
 ghost use mathlib.Core.List.{[], _∷_, _++_};
 ghost use mathlib.Core.Path.{_≡_};
 ghost use Prim.Native.Nat.{_+_, _-_, _≤_, _<_, _^_};
+ghost use lib.Dec.{leb};
 ghost use lib.ListN.{length, take, drop};
 ghost use Rattle.rules.specs.Answers.{afterwards, valueFoundSays, writtenAnswer};
 ghost use Rattle.rules.specs.Trailer.{bySpaces, unfolded, valueIsWritten};
@@ -18,7 +19,7 @@ use text::line::line_len;
 use white::trim;
 
 // Whether a raw value has more than one line, so that its unfolded value is written.
-pub fn is_folded(value: &[u8]) -> bool
+fn is_folded(value: &[u8]) -> bool
     ensures { λ r. ⌜ r ≡ valueIsWritten (now (value .entry)) ⌝ }
 {
     line_len(value) < value.len()
@@ -49,7 +50,7 @@ fn joined_len(len: usize, more: usize) -> usize
 }
 
 // The length of the unfolded value.
-pub fn unfolded_len(value: &[u8]) -> usize
+fn unfolded_len(value: &[u8]) -> usize
     ensures { λ r. ⌜ r ≡ length (unfolded (now (value .entry))) ⌝ }
 {
     let mut len = 0;
@@ -83,9 +84,10 @@ fn push_line(line: &[u8], out: &mut [u8], len: usize) -> usize
     end
 }
 
-// Writes the unfolded value to the front of `out`, and keeps every byte behind it.
-pub fn unfold_into(value: &[u8], out: &mut [u8])
+// Writes the unfolded value to the front of `out`, keeps every byte behind it, and answers its length.
+fn unfold_into(value: &[u8], out: &mut [u8]) -> usize
     requires { ⌜ length (unfolded (now value)) ≤ length (now out) ⌝ }
+    ensures { λ r. ⌜ r ≡ length (unfolded (now (value .entry))) ⌝ }
     ensures { λ _. ⌜ now (out .exit) ≡ unfolded (now (value .entry)) ++ drop (length (unfolded (now (value .entry)))) (now (out .entry)) ⌝ }
 {
     let mut len = 0;
@@ -96,6 +98,18 @@ pub fn unfold_into(value: &[u8], out: &mut [u8])
         len = push_line(line, out, len);
         at = end;
     }
+    len
+}
+
+// Whether the unfolded value fits into `room` bytes. It is never longer than the raw value, so its length is found only where
+// that does not fit.
+fn has_room(value: &[u8], room: usize) -> bool
+    ensures { λ r. ⌜ r ≡ leb (length (unfolded (now (value .entry)))) room ⌝ }
+{
+    if value.len() <= room {
+        return true;
+    }
+    unfolded_len(value) <= room
 }
 
 // The unfolded value of a raw value that has several lines: written to the front of `out`, where there is room.
@@ -103,15 +117,12 @@ fn unfold_value(value: &[u8], out: &mut [u8]) -> ValueFound
     ensures { λ r. ⌜ valueFoundSays r ≡ writtenAnswer (unfolded (now (value .entry))) (length (now (out .entry))) ⌝ }
     ensures { λ _. ⌜ now (out .exit) ≡ afterwards [] true (unfolded (now (value .entry))) (now (out .entry)) ⌝ }
 {
-    let needed = unfolded_len(value);
-    if out.len() < needed {
+    if !has_room(value, out.len()) {
+        let needed = unfolded_len(value);
         return ValueFound::Refused(Refusal::NoRoom(needed));
     }
-    unfold_into(value, out);
-    ValueFound::At(Value::InBuffer(Part {
-        start: 0,
-        end: needed,
-    }))
+    let end = unfold_into(value, out);
+    ValueFound::At(Value::InBuffer(Part { start: 0, end }))
 }
 
 // The value of the raw value from `from` up to `to`: a part of the body, or, unfolded, the front of `out`.
