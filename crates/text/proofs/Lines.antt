@@ -51,7 +51,7 @@ first-within s = within (lines s) (join-lines s)
 abbrev Ended : ℕ → ℕ → ℕ → Type 0
 Ended len until first = (until < len → first ≡ suc until) × (until ≡ len → first ≡ len)
 
-first-more : (c : ℕ) (ls : List Line) → firstLength (before false c ls) ≡ suc (firstLength ls)
+pub first-more : (c : ℕ) (ls : List Line) → firstLength (before false c ls) ≡ suc (firstLength ls)
 first-more c [] = refl
 first-more c (l ∷ ls) = refl
 

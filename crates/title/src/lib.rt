@@ -1,7 +1,9 @@
-// Where the title of a message ends and its body starts: the loop of the original's decode.rs.
+// Where the title of a message ends and its body starts: what the loop of the original's decode.rs finds, by lines.
 ghost use mathlib.Core.Path.{_≡_};
-ghost use Rattle.rules.specs.Title.{bodyStart, lineEnd, titleEnd, twoEnds};
+ghost use Rattle.rules.specs.Title.{bodyStart, lineEnd, titleEnd};
 use text::fixed::starts_with;
+use text::line::line_len;
+use text::line::trim_line_ending;
 
 // Where the title ends and where the body starts; both at the end of the message where all is title.
 pub struct Places {
@@ -9,40 +11,28 @@ pub struct Places {
     pub body_start: usize,
 }
 
-// The title ends at the first place where two line ends follow each other; the body is what comes after them.
+// The title ends at the first place where two line ends follow each other; the body is what comes after them. The second
+// stands where a line starts, and the first ends the line before it.
 pub fn title_and_body(message: &[u8]) -> Places
     ensures { λ r. ⌜ (r .«title_end» ≡ titleEnd (now (message .entry))) × (r .«body_start» ≡ bodyStart (now (message .entry))) ⌝ }
 {
-    let mut pos = 0;
-    while pos < message.len() {
-        let newlines_len = two_newlines_len(&message[pos..]);
-        if newlines_len != 0 {
+    let mut at = 0;
+    while at < message.len() {
+        let end = at + line_len(&message[at..]);
+        let second_len = newline_len(&message[end..]);
+        if second_len != 0 {
+            let text_len = trim_line_ending(&message[at..end]).len();
             return Places {
-                title_end: pos,
-                body_start: pos + newlines_len,
+                title_end: at + text_len,
+                body_start: end + second_len,
             };
         }
-        pos += 1;
+        at = end;
     }
     Places {
-        title_end: pos,
-        body_start: pos,
+        title_end: at,
+        body_start: at,
     }
-}
-
-// The length of the two line ends at the front; 0 where they are not there.
-fn two_newlines_len(input: &[u8]) -> usize
-    ensures { λ r. ⌜ r ≡ twoEnds (now (input .entry)) ⌝ }
-{
-    let first_len = newline_len(input);
-    if first_len == 0 {
-        return 0;
-    }
-    let second_len = newline_len(&input[first_len..]);
-    if second_len == 0 {
-        return 0;
-    }
-    first_len + second_len
 }
 
 // The length of the line end at the front; 0 where none is there.

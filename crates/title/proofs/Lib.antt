@@ -1,0 +1,2 @@
+-- Laws of the title, line by line.
+pub mod ByLines
