@@ -21,7 +21,8 @@ over s i h =
 
 abbrev Inv-loop : tie.InvT-loop
 Inv-loop message at₀ at =
-    (at ≤ length message) × (titleEnd message ≡ at + titleEnd (drop at message)) × (bodyStart message ≡ at + bodyStart (drop at message))
+    (at ≤ length message) × (titleEnd message ≡ at + titleEnd (drop at message))
+    × (bodyStart message ≡ at + bodyStart (drop at message))
 
 abbrev μ-loop : tie.MeasureT-loop
 μ-loop message at₀ at = length message - at
@@ -81,7 +82,8 @@ returns c =
     let s = l .before .before .args .message .now in
     let n = c .before .before .before .before .before .line-len in
     let m = c .before .before .before .newline-len in
-    let ended = line-ended s (l .loop .at) (n .result) (m .result) (omega arith) (n .ensures) (m .ensures) (c .before .before .if1 .taken) in
+    let some = c .before .before .if1 .taken in
+    let ended = line-ended s (l .loop .at) (n .result) (m .result) (omega arith) (n .ensures) (m .ensures) some in
     omega (arith, ended, ap length (c .trim-line-ending .ensures))
 
 add-t17 : tie.Need-add-t17 Inv-loop μ-loop
