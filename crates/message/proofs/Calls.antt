@@ -113,8 +113,8 @@ module _ (kind : Kind) (body : List ℕ) (at : ℕ) (short : ltb limit (length b
         let g = value-refused body f w r room p in
         rw (short, fits, f .walked, g .0) (g .1)
 
-    pub step-left : (out : List ℕ) → valueBuffer (take (e - (c + 1)) (drop (c + 1) body)) out ≡ stepBuffer kind body at out
-    step-left out = value-left body f w out ∙ rw (short, fits, f .walked)
+    pub step-left : (out : List ℕ) {left : List ℕ} → left ≡ valueBuffer (take (e - (c + 1)) (drop (c + 1) body)) out → left ≡ stepBuffer kind body at out
+    step-left out p = p ∙ value-left body f w out ∙ rw (short, fits, f .walked)
 
 -- ---- the lookup, behind refusal 1
 
@@ -168,8 +168,8 @@ module _ (body name : List ℕ) (short : ltb limit (length body) ≡ false) (bri
         let k = rw (l .first) at (value-refused body (l .f) at-u r room p) in
         rw (short, brief, l .there, k .0) (k .1)
 
-    pub find-left : (out : List ℕ) → valueBuffer (take (e - (c + 1)) (drop (c + 1) body)) out ≡ findBuffer body name out
-    find-left out = (rw (l .first) at (value-left body (l .f) at-u out)) ∙ rw (short, brief, l .there)
+    pub find-left : (out : List ℕ) {left : List ℕ} → left ≡ valueBuffer (take (e - (c + 1)) (drop (c + 1) body)) out → left ≡ findBuffer body name out
+    find-left out p = p ∙ (rw (l .first) at (value-left body (l .f) at-u out)) ∙ rw (short, brief, l .there)
 
 -- ---- a summary, behind refusal 1: `kept` is the title without the white space at its ends
 

@@ -28,11 +28,15 @@ returns c = simp (lt-ltb _ _ (c .if1 .taken))
 title-and-body-requires : tie.Need-title-and-body-requires
 title-and-body-requires c κs = search needs
 
+-- the body starts in the message
+starts : (t : tie.After-title-and-body) → t .title-and-body .result .«body_start» ≤ length (t .before .before .before .args .message .now)
+starts t = rw (t .title-and-body .ensures .1) (body-fits (t .before .before .before .args .message .now))
+
 sub-trailer-block-start : tie.Need-sub-trailer-block-start
-sub-trailer-block-start c = omega (arith, body-fits (c .before .before .before .args .message .now), c .title-and-body .ensures)
+sub-trailer-block-start c = starts c
 
 part-trailer-block-start-start : tie.Need-part-trailer-block-start-start
-part-trailer-block-start-start c = omega (arith, body-fits (c .before .before .before .args .message .now), c .title-and-body .ensures)
+part-trailer-block-start-start c = starts c
 
 part-trailer-block-start-end : tie.Need-part-trailer-block-start-end
 part-trailer-block-start-end c = search needs
@@ -40,11 +44,18 @@ part-trailer-block-start-end c = search needs
 trailer-block-start-requires : tie.Need-trailer-block-start-requires
 trailer-block-start-requires c κs = search needs
 
+-- the walk starts at the block start of the body
+walks : (b : tie.After-trailer-block-start) → let t = b .before .before in
+    t .title-and-body .result .«body_start» + b .trailer-block-start .result ≡ walkStart (t .before .before .before .args .message .now)
+walks b =
+    let t = b .before .before in
+    walk-at (t .before .before .before .args .message .now) _ _ (t .title-and-body .ensures .1) (b .trailer-block-start .ensures)
+
 add-at : tie.Need-add-at
-add-at c = omega (arith, walk-at (c .before .before .before .before .before .args .message .now) (c .before .before .title-and-body .result .«body_start») (c .trailer-block-start .result) (c .before .before .title-and-body .ensures .1) (c .trailer-block-start .ensures), walk-fits (c .before .before .before .before .before .args .message .now))
+add-at c = omega (arith, walks c, walk-fits (c .before .before .before .before .before .args .message .now))
 
 returns-2 : tie.Need-returns-2
-returns-2 c = simp (le-ltb _ _ (c .before .before .before .if1 .left), walk-at (c .before .before .before .before .before .args .message .now) (c .before .before .title-and-body .result .«body_start») (c .trailer-block-start .result) (c .before .before .title-and-body .ensures .1) (c .trailer-block-start .ensures))
+returns-2 c = simp (le-ltb _ _ (c .before .before .before .if1 .left), walks c)
 
 pub message-trailers-spec : {M : Type 1} → statement M
 message-trailers-spec =

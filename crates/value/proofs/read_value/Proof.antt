@@ -1,6 +1,6 @@
 -- `value::read_value` meets its contract. Assumes nothing.
 use mathlib.Core.Path.{sym, _∙_}
-use Prim.Native.Nat.{_-_}
+use Prim.Native.Nat.{_+_, _-_, _≤_}
 use native.Mathlib.Omega.{arith}
 use borrow.Author.Needs.{needs}
 use lib.ListN.{length, take, drop, length-drop}
@@ -30,28 +30,37 @@ same-length c = search needs
 
 returns : tie.Need-returns
 returns c =
-    let raw = take (c .before .before .before .before .before .before .before .before .before .args .to - c .before .before .before .before .before .before .before .before .before .args .from) (drop (c .before .before .before .before .before .before .before .before .before .args .from) (c .before .before .before .before .before .before .before .before .before .args .body .now)) in
-    let q = sym (c .before .before .before .before .before .is-folded .ensures) ∙ c .before .before .before .before .if1 .taken in (
-      c .before .before .unfold-value .ensures .0 ∙ value-folded (c .before .before .before .before .before .before .before .before .before .args .from) raw q (length (c .before .before .before .before .before .before .before .before .before .args .out .now)),
-      c .before .before .unfold-value .ensures .1 ∙ buffer-folded (c .before .before .before .before .before .before .before .before .before .args .from) raw q (c .before .before .before .before .before .before .before .before .before .args .out .now),
-    )
+    let f = c .before .before .before .before .before in
+    let a = f .before .before .before .before .args in
+    let raw = take (a .to - a .from) (drop (a .from) (a .body .now)) in
+    let q = sym (f .is-folded .ensures) ∙ c .before .before .before .before .if1 .taken in
+    let u = c .before .before .unfold-value .ensures in
+    (u .0 ∙ value-folded (a .from) raw q (length (a .out .now)), u .1 ∙ buffer-folded (a .from) raw q (a .out .now))
 
 trim-requires : tie.Need-trim-requires
 trim-requires c κs = search needs
 
+-- the part that trimming keeps lies in the raw value, and the raw value in the body
+inside : (t : tie.After-trim) → let a = t .before .before .before .before .before .before .args in
+    (a .from + t .trim .result .start ≤ a .to) × (a .from + t .trim .result .end ≤ a .to)
+inside t =
+    let a = t .before .before .before .before .before .before .args in
+    let size = length-take-le (a .to - a .from) (drop (a .from) (a .body .now)) (omega (arith, length-drop (a .from) (a .body .now), t .before .before .before .before .before .before .pre)) in
+    omega (arith, size, trim-fits (take (a .to - a .from) (drop (a .from) (a .body .now))), t .trim .ensures, t .before .before .before .before .before .before .pre)
+
 add-start : tie.Need-add-start
-add-start c = omega (arith, trim-fits (take (c .before .before .before .before .before .before .before .args .to - c .before .before .before .before .before .before .before .args .from) (drop (c .before .before .before .before .before .before .before .args .from) (c .before .before .before .before .before .before .before .args .body .now))), length-take-le (c .before .before .before .before .before .before .before .args .to - c .before .before .before .before .before .before .before .args .from) (drop (c .before .before .before .before .before .before .before .args .from) (c .before .before .before .before .before .before .before .args .body .now)) (omega (arith, c .before .before .before .before .before .before .before .pre, length-drop (c .before .before .before .before .before .before .before .args .from) (c .before .before .before .before .before .before .before .args .body .now))), c .before .trim .ensures, c .before .before .before .before .before .before .before .pre)
+add-start c = omega (arith, inside (c .before), c .before .before .before .before .before .before .before .pre)
 
 add-end : tie.Need-add-end
-add-end c = omega (arith, trim-fits (take (c .before .before .before .before .before .before .before .before .args .to - c .before .before .before .before .before .before .before .before .args .from) (drop (c .before .before .before .before .before .before .before .before .args .from) (c .before .before .before .before .before .before .before .before .args .body .now))), length-take-le (c .before .before .before .before .before .before .before .before .args .to - c .before .before .before .before .before .before .before .before .args .from) (drop (c .before .before .before .before .before .before .before .before .args .from) (c .before .before .before .before .before .before .before .before .args .body .now)) (omega (arith, c .before .before .before .before .before .before .before .before .pre, length-drop (c .before .before .before .before .before .before .before .before .args .from) (c .before .before .before .before .before .before .before .before .args .body .now))), c .before .before .trim .ensures, c .before .before .before .before .before .before .before .before .pre)
+add-end c = omega (arith, inside (c .before .before), c .before .before .before .before .before .before .before .before .pre)
 
 returns-2 : tie.Need-returns-2
 returns-2 c =
-    let raw = take (c .before .before .before .before .before .before .before .before .args .to - c .before .before .before .before .before .before .before .before .args .from) (drop (c .before .before .before .before .before .before .before .before .args .from) (c .before .before .before .before .before .before .before .before .args .body .now)) in
-    let q = sym (c .before .before .before .before .is-folded .ensures) ∙ c .before .before .before .if1 .left in (
-      rw (c .before .before .trim .ensures .0, c .before .before .trim .ensures .1) (value-part (c .before .before .before .before .before .before .before .before .args .from) raw q (length (c .before .before .before .before .before .before .before .before .args .out .now))),
-      buffer-part (c .before .before .before .before .before .before .before .before .args .from) raw q (c .before .before .before .before .before .before .before .before .args .out .now),
-    )
+    let t = c .before .before in
+    let a = t .before .before .before .before .before .before .args in
+    let raw = take (a .to - a .from) (drop (a .from) (a .body .now)) in
+    let q = sym (t .before .before .is-folded .ensures) ∙ t .before .if1 .left in
+    (rw (t .trim .ensures .0, t .trim .ensures .1) (value-part (a .from) raw q (length (a .out .now))), buffer-part (a .from) raw q (a .out .now))
 
 pub read-value-spec : {M : Type 1} → statement M
 read-value-spec =
