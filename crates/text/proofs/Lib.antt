@@ -1,4 +1,3 @@
--- Laws of lines, for those who call this crate, and of comparing.
+-- Laws of lines, for those who call this crate.
 pub mod Lines
 pub mod ByLines
-pub mod Alike

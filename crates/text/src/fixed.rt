@@ -4,20 +4,21 @@ ghost use Rattle.rules.specs.Bytes.{lower};
 ghost use Rattle.rules.specs.Lists.{starts};
 ghost use Rattle.rules.specs.Trailer.{same};
 
-// Whether `s` starts with `p`. As much of `s` as may be `p` is read to its end, so that the compiler compares many bytes at once.
+// Whether `s` starts with `p`.
 pub fn starts_with(s: &[u8], p: &[u8]) -> bool
     ensures { λ r. ⌜ r ≡ starts (now (p .entry)) (now (s .entry)) ⌝ }
 {
     if s.len() < p.len() {
         return false;
     }
-    let mut alike = true;
     let mut i = 0;
     while i < p.len() {
-        alike = alike & (p[i] == s[i]);
+        if s[i] != p[i] {
+            return false;
+        }
         i += 1;
     }
-    alike
+    true
 }
 
 // An ASCII capital as its small letter, every other byte as it is.

@@ -13,7 +13,6 @@ use lib.Seq.{drop-cons}
 use Rattle.rules.specs.Bytes.{lower}
 use Rattle.rules.specs.Lists.{equal}
 use Rattle.rules.specs.Trailer.{same}
-use Rattle.text.proofs.Alike.{and-assoc, and-true}
 use Rattle.text.proofs.fixed.eq_ignore_ascii_case.Statement.{statement}
 use Rattle.text.proofs.fixed.eq_ignore_ascii_case.Tie as tie
 
@@ -26,6 +25,14 @@ longer (x ∷ a) (y ∷ b) n = elim (eqb x y) as (λ t. t && equal a b ≡ false
 differ : (a b : List ℕ) → (length a ≡ length b → ⊥) → same a b ≡ false
 unfolding same
 differ a b n = longer (map lower a) (map lower b) (λ e. n (simp length-map at e))
+
+and-true : (x : Bool) → x && true ≡ x
+and-true true = refl
+and-true false = refl
+
+and-assoc : (x t w : Bool) → x && (t && w) ≡ (x && t) && w
+and-assoc true t w = refl
+and-assoc false t w = refl
 
 step : (a b : List ℕ) (i x y : ℕ) (alike : Bool) → i < length a → i < length b → x ≡ lower (getD a i 0) → y ≡ lower (getD b i 0)
     → alike && same (drop i a) (drop i b) ≡ (alike && eqb x y) && same (drop (i + 1) a) (drop (i + 1) b)

@@ -1,5 +1,5 @@
--- `text::fixed::starts_with` meets its contract. The invariant: `s` starts with `p` just where the two were alike so far and what
--- is left of `s` starts with what is left of `p`. Assumes nothing.
+-- `text::fixed::starts_with` meets its contract. The invariant: what is left of `s` starts with what is left of `p` just where
+-- `s` starts with `p`. Assumes nothing.
 use mathlib.Core.Bool.{Bool, true, false, _&&_}
 use mathlib.Core.List.{List, [], _∷_}
 use mathlib.Core.Path.{_≡_, refl, sym, _∙_}
@@ -7,11 +7,11 @@ use Prim.Native.Nat.{ℕ, _+_, _-_, _≤_, _<_}
 use native.Mathlib.Numerals.{add-one}
 use native.Mathlib.Omega.{arith}
 use borrow.Author.Needs.{needs}
+use borrow.Author.Tests.{eq-eqb, ne-eqb}
 use lib.Dec.{eqb}
 use lib.ListN.{length, drop, getD, drop-of-length-le}
 use lib.Seq.{drop-cons}
 use Rattle.rules.specs.Lists.{starts}
-use Rattle.text.proofs.Alike.{and-assoc, and-true}
 use Rattle.text.proofs.fixed.starts_with.Statement.{statement}
 use Rattle.text.proofs.fixed.starts_with.Tie as tie
 
@@ -20,15 +20,15 @@ short [] s h = absurd (omega arith)
 short (x ∷ p) [] h = refl
 short (x ∷ p) (y ∷ s) h = elim (eqb x y) as (λ b. b && starts p s ≡ false) [ true ↦ short p s (omega arith) | false ↦ refl ]
 
-step : (p s : List ℕ) (i : ℕ) (alike : Bool) → i < length p → i < length s
-    → alike && starts (drop i p) (drop i s) ≡ (alike && eqb (getD p i 0) (getD s i 0)) && starts (drop (i + 1) p) (drop (i + 1) s)
-step p s i alike h k = rw (add-one i, drop-cons p i 0, drop-cons s i 0) (and-assoc alike _ _)
+step : (p s : List ℕ) (i : ℕ) (b : Bool) → i < length p → i < length s → eqb (getD p i 0) (getD s i 0) ≡ b
+    → starts (drop i p) (drop i s) ≡ b && starts (drop (i + 1) p) (drop (i + 1) s)
+step p s i b h k e = rw (add-one i, drop-cons p i 0, drop-cons s i 0, e)
 
 abbrev Inv-loop : tie.InvT-loop
-Inv-loop s p alike₀ i₀ alike i = (i ≤ length p) × (starts p s ≡ alike && starts (drop i p) (drop i s))
+Inv-loop s p i₀ i = (i ≤ length p) × (starts p s ≡ starts (drop i p) (drop i s))
 
 abbrev μ-loop : tie.MeasureT-loop
-μ-loop s p alike₀ i₀ alike i = length p - i
+μ-loop s p i₀ i = length p - i
 
 returns : tie.Need-returns Inv-loop μ-loop
 returns c = sym (short (c .before .args .p .now) (c .before .args .s .now) (c .if1 .taken))
@@ -36,11 +36,20 @@ returns c = sym (short (c .before .args .p .now) (c .before .args .s .now) (c .i
 loop-holds : tie.Need-loop-holds Inv-loop μ-loop
 loop-holds c = search needs
 
-shared-slice-read-alike : tie.Need-shared-slice-read-alike Inv-loop μ-loop
-shared-slice-read-alike c = search needs
+shared-slice-read-if2 : tie.Need-shared-slice-read-if2 Inv-loop μ-loop
+shared-slice-read-if2 c = search needs
 
-shared-slice-read-alike-2 : tie.Need-shared-slice-read-alike-2 Inv-loop μ-loop
-shared-slice-read-alike-2 c = search needs
+shared-slice-read-if2-2 : tie.Need-shared-slice-read-if2-2 Inv-loop μ-loop
+shared-slice-read-if2-2 c = search needs
+
+returns-2 : tie.Need-returns-2 Inv-loop μ-loop
+returns-2 c =
+    let l = c .before .before .before .before in
+    let s = l .before .before .args .s .now in
+    let p = l .before .before .args .p .now in
+    let i = l .loop .i in
+    let b : eqb (getD p i 0) (getD s i 0) ≡ false = ne-eqb _ _ (λ e. c .if2 .taken (sym e)) in
+    sym (l .loop .inv .1 ∙ step p s i false (omega arith) (omega arith) b)
 
 add-i : tie.Need-add-i Inv-loop μ-loop
 add-i c = search needs
@@ -50,14 +59,17 @@ loop-less c = search needs
 
 loop-again : tie.Need-loop-again Inv-loop μ-loop
 loop-again c =
-    let l = c .before .before .before in
-    let a = l .before .before .args in
-    (search needs, l .loop .inv .1 ∙ step (a .p .now) (a .s .now) (l .loop .i) (l .loop .alike) (omega arith) (omega arith))
+    let l = c .before .before .before .before in
+    let s = l .before .before .args .s .now in
+    let p = l .before .before .args .p .now in
+    let i = l .loop .i in
+    let b : eqb (getD p i 0) (getD s i 0) ≡ true = eq-eqb _ _ (sym (c .if2 .left)) in
+    (search needs, l .loop .inv .1 ∙ step p s i true (omega arith) (omega arith) b)
 
-returns-2 : tie.Need-returns-2 Inv-loop μ-loop
-returns-2 c =
+returns-3 : tie.Need-returns-3 Inv-loop μ-loop
+returns-3 c =
     let p = c .before .before .before .args .p .now in
-    sym (c .before .loop .inv .1 ∙ rw (drop-of-length-le p (c .loop-test .left)) (and-true (c .before .loop .alike)))
+    sym (c .before .loop .inv .1 ∙ rw (drop-of-length-le p (c .loop-test .left)))
 
 pub starts-with-spec : {M : Type 1} → statement M
 starts-with-spec =
@@ -67,9 +79,10 @@ starts-with-spec =
     μ-loop
     returns
     loop-holds
-    shared-slice-read-alike
-    shared-slice-read-alike-2
+    shared-slice-read-if2
+    shared-slice-read-if2-2
+    returns-2
     add-i
     loop-less
     loop-again
-    returns-2)
+    returns-3)
