@@ -5,13 +5,13 @@ ghost use lib.ListN.{length};
 ghost use Rattle.rules.specs.Trailer.{walkFrom};
 use libc::STDOUT_FILENO;
 use message::body::next_trailer;
-use message::body::value_of;
 use message::message_trailers;
 use rules::Cursor;
 use rules::TrailerRef;
 use rules::TrailerStep;
 use rules::Value;
 use rules::WalkFound;
+use view::value_of;
 
 // Reads a message from `fd` and prints its listing; where it has more than 32,768 bytes, only `too long`. A read that fails
 // counts as the message's end.

@@ -1,7 +1,7 @@
 // The calls on a body: trailers, blocks, attribution.
 ghost use mathlib.Core.Path.{_≡_};
 ghost use lib.ListN.{length};
-ghost use Rattle.rules.specs.Answers.{blockStepSays, partOf, startSays, trailerFoundSays, trailerStepSays, viewOf, yesNoSays};
+ghost use Rattle.rules.specs.Answers.{blockStepSays, startSays, trailerFoundSays, trailerStepSays, yesNoSays};
 ghost use Rattle.rules.specs.declared.Kind.{Kind};
 ghost use Rattle.message.specs.Body.{blockAnswer, findAnswer, findBuffer, questionAnswer, startAnswer, stepAnswer, stepBuffer};
 use block::NextBlock;
@@ -17,7 +17,6 @@ use rules::StartFound;
 use rules::TrailerFound;
 use rules::TrailerRef;
 use rules::TrailerStep;
-use rules::Value;
 use rules::ValueFound;
 use rules::YesNo;
 use trailer::walk::NextTrailer;
@@ -214,28 +213,5 @@ pub fn find_trailer(body: &[u8], name: &[u8], out: &mut [u8]) -> TrailerFound
             value,
         }),
         ValueFound::Refused(refusal) => TrailerFound::Refused(refusal),
-    }
-}
-
-// The bytes of `s` from `start` up to `end`; none where the range does not fit.
-fn part_or_empty<'a>(s: &'a [u8], start: usize, end: usize) -> &'a [u8]
-    ensures { λ r. ⌜ now r ≡ partOf (now (s .entry)) start end ⌝ }
-{
-    if end < start {
-        return &s[0..0];
-    }
-    if s.len() < end {
-        return &s[0..0];
-    }
-    &s[start..end]
-}
-
-// What a value shows: the part of the message, or of the buffer, in which it stands. A range that does not fit shows nothing.
-pub fn value_of<'a>(message: &'a [u8], buffer: &'a [u8], value: Value) -> &'a [u8]
-    ensures { λ r. ⌜ now r ≡ viewOf (now (message .entry)) (now (buffer .entry)) value ⌝ }
-{
-    match value {
-        Value::InInput(part) => part_or_empty(message, part.start, part.end),
-        Value::InBuffer(part) => part_or_empty(buffer, part.start, part.end),
     }
 }

@@ -1,12 +1,6 @@
 // The port's answers about an input, each held to what the list has at a place. The input is taken as a message, as a
 // body and as a token. Each function answers the place behind the answer, if the two agree.
 ghost use Prim.Native.Nat.{_≤_};
-use crate::list::Place;
-use crate::list::bytes_at;
-use crate::list::expect_bytes;
-use crate::list::expect_number;
-use crate::list::expect_two;
-use crate::list::number_at;
 use libc::STDOUT_FILENO;
 use message::body::find_trailer;
 use message::body::is_acked_by;
@@ -19,11 +13,16 @@ use message::body::is_tested_by;
 use message::body::next_block;
 use message::body::next_trailer_of;
 use message::body::trailer_block_start;
-use message::body::value_of;
 use message::decode::message_title_and_body;
 use message::message_summary;
 use message::message_trailers;
 use message::summary;
+use recorded::Place;
+use recorded::bytes_at;
+use recorded::expect_bytes;
+use recorded::expect_number;
+use recorded::expect_two;
+use recorded::number_at;
 use rules::BlockCursor;
 use rules::BlockStep;
 use rules::Cursor;
@@ -38,6 +37,7 @@ use rules::Value;
 use rules::ValueFound;
 use rules::WalkFound;
 use rules::YesNo;
+use view::value_of;
 
 // How many answers the list has about an input. They are numbered from 0.
 pub const ANSWERS: usize = 10;

@@ -4,7 +4,6 @@
 // With one byte of an answer changed, the list makes it print another line than its file `stdout` has, and the gate
 // fails. README.md says how to try that, and how the list was made.
 mod answers;
-mod list;
 
 ghost use lib.ListN.{length};
 ghost use mathlib.Core.Path.{_≡_};
@@ -12,9 +11,9 @@ use answers::ANSWERS;
 use answers::answer_agrees;
 use answers::print_answer;
 use libc::STDOUT_FILENO;
-use list::Place;
-use list::bytes_at;
-use list::two_bytes_at;
+use recorded::Place;
+use recorded::bytes_at;
+use recorded::two_bytes_at;
 
 // Whether the answers about a message agree: the place behind them, or the number of the first that does not.
 enum Outcome {

@@ -3,7 +3,6 @@ ghost use mathlib.Core.Bool.{true};
 ghost use mathlib.Core.List.{[], _∷_, _++_};
 ghost use mathlib.Core.Path.{_≡_};
 ghost use Prim.Native.Nat.{_+_, _-_, _≤_, _<_, _^_};
-ghost use lib.Dec.{leb};
 ghost use lib.ListN.{length, take, drop};
 ghost use Rattle.rules.specs.Answers.{afterwards, valueFoundSays, writtenAnswer};
 ghost use Rattle.rules.specs.Trailer.{bySpaces, unfolded, valueIsWritten};
@@ -101,28 +100,30 @@ fn unfold_into(value: &[u8], out: &mut [u8]) -> usize
     len
 }
 
-// Whether the unfolded value fits into `room` bytes. It is never longer than the raw value, so its length is found only where
-// that does not fit.
-fn has_room(value: &[u8], room: usize) -> bool
-    ensures { λ r. ⌜ r ≡ leb (length (unfolded (now (value .entry)))) room ⌝ }
+// The unfolded value, written to the front of `out`, where it fits.
+fn unfold_fitting(value: &[u8], out: &mut [u8]) -> ValueFound
+    requires { ⌜ length (unfolded (now value)) ≤ length (now out) ⌝ }
+    ensures { λ r. ⌜ valueFoundSays r ≡ writtenAnswer (unfolded (now (value .entry))) (length (now (out .entry))) ⌝ }
+    ensures { λ _. ⌜ now (out .exit) ≡ afterwards [] true (unfolded (now (value .entry))) (now (out .entry)) ⌝ }
 {
-    if value.len() <= room {
-        return true;
-    }
-    unfolded_len(value) <= room
+    let end = unfold_into(value, out);
+    ValueFound::At(Value::InBuffer(Part { start: 0, end }))
 }
 
-// The unfolded value of a raw value that has several lines: written to the front of `out`, where there is room.
+// The unfolded value of a raw value that has several lines: written to the front of `out`, where there is room. It is never longer
+// than the raw value, so its length is found only where that does not fit.
 fn unfold_value(value: &[u8], out: &mut [u8]) -> ValueFound
     ensures { λ r. ⌜ valueFoundSays r ≡ writtenAnswer (unfolded (now (value .entry))) (length (now (out .entry))) ⌝ }
     ensures { λ _. ⌜ now (out .exit) ≡ afterwards [] true (unfolded (now (value .entry))) (now (out .entry)) ⌝ }
 {
-    if !has_room(value, out.len()) {
-        let needed = unfolded_len(value);
+    if value.len() <= out.len() {
+        return unfold_fitting(value, out);
+    }
+    let needed = unfolded_len(value);
+    if out.len() < needed {
         return ValueFound::Refused(Refusal::NoRoom(needed));
     }
-    let end = unfold_into(value, out);
-    ValueFound::At(Value::InBuffer(Part { start: 0, end }))
+    unfold_fitting(value, out)
 }
 
 // The value of the raw value from `from` up to `to`: a part of the body, or, unfolded, the front of `out`.

@@ -1,7 +1,7 @@
--- `message::body::value_of` meets its contract. Assumes nothing.
+-- `view::value_of` meets its contract. Assumes nothing.
 use borrow.Author.Needs.{needs}
-use Rattle.message.proofs.body.value_of.Statement.{statement}
-use Rattle.message.proofs.body.value_of.Tie as tie
+use Rattle.view.proofs.value_of.Statement.{statement}
+use Rattle.view.proofs.value_of.Tie as tie
 
 enum-known-value : tie.Need-enum-known-value
 enum-known-value c = search needs

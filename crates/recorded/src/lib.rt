@@ -1,4 +1,5 @@
-// The list: numbers and bytes at a place, read, or held to what is expected there. README.md says how it is laid out.
+// The list of recorded answers: numbers and bytes at a place, read, or held to what is expected there. README.md of crates/replay
+// says how it is laid out.
 ghost use Prim.Native.Nat.{_≤_, _<_};
 ghost use lib.ListN.{length};
 use text::fixed::starts_with;

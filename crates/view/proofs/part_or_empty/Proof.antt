@@ -1,8 +1,8 @@
--- `message::body::part_or_empty` meets its contract. Assumes nothing.
+-- `view::part_or_empty` meets its contract. Assumes nothing.
 use borrow.Author.Needs.{needs}
 use borrow.Author.Tests.{le-leb, lt-leb}
-use Rattle.message.proofs.body.part_or_empty.Statement.{statement}
-use Rattle.message.proofs.body.part_or_empty.Tie as tie
+use Rattle.view.proofs.part_or_empty.Statement.{statement}
+use Rattle.view.proofs.part_or_empty.Tie as tie
 
 sub-result : tie.Need-sub-result
 sub-result c = search needs
