@@ -5,3 +5,4 @@ pub mod Pieces
 pub mod Pass
 pub mod Put
 pub mod Written
+pub mod Plain

@@ -10,6 +10,7 @@ ghost use Rattle.rules.specs.Answers.{afterwards, valueFoundSays, writtenAnswer
 ghost use Rattle.rules.specs.Lists.{run};
 ghost use Rattle.rules.specs.Summary.{dropBlanks, folded, pieces, spaced, many};
 ghost use Rattle.summary.specs.Put.{put};
+ghost use Rattle.summary.specs.Spaces.{spaceForLF, withSpaces};
 use copy::copy_at;
 use find::find_lf;
 use rules::Part;
@@ -115,6 +116,42 @@ fn summarise_into(message: &[u8], out: &mut [u8], n: usize)
     copy_to(&message[at..], out, len, n);
 }
 
+// An LF as a space, every other byte as it is.
+fn space_for_lf(byte: u8) -> u8
+    ensures { λ r. ⌜ r ≡ spaceForLF byte ⌝ }
+{
+    if byte == b'\n' {
+        return b' ';
+    }
+    byte
+}
+
+// Writes a message to the front of `out`, with a space for each LF.
+fn copy_with_spaces(message: &[u8], out: &mut [u8])
+    requires { ⌜ length (now message) ≤ length (now out) ⌝ }
+    ensures { λ _. ⌜ now (out .exit) ≡ withSpaces (now (message .entry)) ++ drop (length (now (message .entry))) (now (out .entry)) ⌝ }
+{
+    let mut i = 0;
+    while i < message.len() {
+        out[i] = space_for_lf(message[i]);
+        i += 1;
+    }
+}
+
+// Writes the summary of a message that is trimmed to the front of `out`; `n` is its length. Where that is the message's, no blank
+// is dropped and nothing stops it.
+fn write_summary(message: &[u8], out: &mut [u8], n: usize)
+    requires { ⌜ n ≡ length (spaced (pieces (now message))) ⌝ }
+    requires { ⌜ n ≤ length (now out) ⌝ }
+    ensures { λ _. ⌜ now (out .exit) ≡ spaced (pieces (now (message .entry))) ++ drop (length (spaced (pieces (now (message .entry))))) (now (out .entry)) ⌝ }
+{
+    if n == message.len() {
+        copy_with_spaces(message, out);
+        return;
+    }
+    summarise_into(message, out, n);
+}
+
 // The summary of a message that is trimmed and has an LF left: written to the front of `out`, where there is room.
 pub fn summarise(message: &[u8], out: &mut [u8]) -> ValueFound
     ensures { λ r. ⌜ valueFoundSays r ≡ writtenAnswer (spaced (pieces (now (message .entry)))) (length (now (out .entry))) ⌝ }
@@ -124,7 +161,7 @@ pub fn summarise(message: &[u8], out: &mut [u8]) -> ValueFound
     if out.len() < needed {
         return ValueFound::Refused(Refusal::NoRoom(needed));
     }
-    summarise_into(message, out, needed);
+    write_summary(message, out, needed);
     ValueFound::At(Value::InBuffer(Part {
         start: 0,
         end: needed,

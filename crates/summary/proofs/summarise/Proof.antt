@@ -13,8 +13,8 @@ returns c =
     let k = lt-ltb _ _ (rw e at (c .if1 .taken)) in
     (rw (k, e), rw k)
 
-summarise-into-requires : tie.Need-summarise-into-requires
-summarise-into-requires c κs = search needs
+write-summary-requires : tie.Need-write-summary-requires
+write-summary-requires c κs = search needs
 
 same-length : tie.Need-same-length
 same-length c = search needs
@@ -23,8 +23,8 @@ returns-2 : tie.Need-returns-2
 returns-2 c =
     let e = c .before .before .before .before .before .summary-len .ensures in
     let k = le-ltb _ _ (rw e at (c .before .before .before .before .if1 .left)) in
-    (rw (k, e), rw k (c .before .before .summarise-into .ensures))
+    (rw (k, e), rw k (c .before .before .write-summary .ensures))
 
 pub summarise-spec : {M : Type 1} → statement M
 summarise-spec =
-    tie.close (tie.spec summary-len-requires returns summarise-into-requires same-length returns-2)
+    tie.close (tie.spec summary-len-requires returns write-summary-requires same-length returns-2)
