@@ -7,7 +7,7 @@ use native.Mathlib.Omega.{arith}
 use lib.ListN.{length, take, drop, getD, length-append}
 use lib.Seq.{drop-cons}
 use Rattle.rules.proofs.Lists.{run-past}
-use Rattle.rules.specs.Lists.{if_then_else_, any, past, run}
+use Rattle.rules.specs.Lists.{any, past, run}
 use Rattle.find.specs.Find.{behindLF, isLF, untilLF}
 
 or-comm : (a b : Bool) → (a || b) ≡ (b || a)

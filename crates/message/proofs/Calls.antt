@@ -4,19 +4,18 @@ use mathlib.Core.List.{List, [], _∷_, _++_}
 use mathlib.Core.Option.{Option, none, some}
 use mathlib.Core.Path.{_≡_, refl, sym, ap, _∙_}
 use Prim.Native.Nat.{ℕ, _+_, _-_, _≤_}
-use native.Mathlib.Nat.{add-assoc}
 use native.Mathlib.Omega.{arith}
 use borrow.Author.Tests.{le-ltb}
 use lib.Dec.{leb, ltb}
 use lib.ListN.{length, take, drop}
 use Rattle.block.specs.Step.{nextBlock}
 use Rattle.block.specs.declared.NextBlock.{NextBlock}
-use Rattle.rules.specs.Answers.{Said, says, afterwards, limit, refused, valueSays, writtenAnswer}
+use Rattle.rules.specs.Answers.{says, afterwards, limit, refused, valueSays, writtenAnswer}
 use Rattle.rules.specs.Division.{Block, block}
 use Rattle.rules.specs.Lists.{if_then_else_}
 use Rattle.rules.specs.Paragraph.{blockStart}
 use Rattle.rules.specs.Summary.{many, pieces, spaced, summary, summaryIsWritten}
-use Rattle.rules.specs.Trailer.{Trailer, lookup, only, rawValue, rawValueAt, unfolded, valueIsWritten, walkFrom}
+use Rattle.rules.specs.Trailer.{Trailer, lookup, only, rawValue, rawValueAt, walkFrom}
 use Rattle.rules.specs.White.{trim, trimAt}
 use Rattle.rules.specs.declared.Kind.{Kind}
 use Rattle.rules.specs.declared.Refusal.{Refusal}

@@ -5,10 +5,10 @@ use mathlib.Core.List.{List, [], _∷_}
 use Prim.Native.Nat.{ℕ, _+_}
 use lib.ListN.{length}
 use Rattle.rules.specs.Answers.{Said, says, orRefused, afterwards}
-use Rattle.rules.specs.Lists.{if_then_else_, filled}
+use Rattle.rules.specs.Lists.{if_then_else_}
 use Rattle.rules.specs.Paragraph.{blockStart}
 use Rattle.rules.specs.Summary.{summary, summaryIsWritten}
-use Rattle.rules.specs.Title.{body, bodyStart, titleEnd}
+use Rattle.rules.specs.Title.{body, bodyStart}
 use Rattle.rules.specs.White.{trim, trimAt}
 
 -- ---- `summary` and `message_summary`: of a title, or of a whole message

@@ -2,17 +2,17 @@
 use mathlib.Core.Bool.{Bool, true, false}
 use mathlib.Core.List.{List, [], _∷_, _++_}
 use mathlib.Core.Path.{_≡_, refl, _∙_}
-use Prim.Native.Nat.{ℕ, _+_}
+use Prim.Native.Nat.{_+_}
 use native.Mathlib.Omega.{arith}
 use lib.ListN.{length}
 use Rattle.rules.specs.Lines.{Line, blank, folds, indented}
-use Rattle.rules.specs.Lists.{if_then_else_, All}
+use Rattle.rules.specs.Lists.{All}
 use Rattle.rules.specs.Manual.{otherLines, trailerCount}
 use Rattle.rules.specs.Paragraph.{Group, IsGrouped, groupLines, grouped, leadCount, leads, otherCount, recognised, solid}
 use Rattle.rules.specs.Trailer.{trailerLine}
 use Rattle.rules.proofs.Lists.{is-false}
 use Rattle.rules.proofs.Manual.{other-lines, trailer-count}
-use Rattle.reading.specs.Kinds.{kindOf, forgives, kinds, leading, others, sum}
+use Rattle.reading.specs.Kinds.{kinds, leading, others, sum}
 
 -- what two ways of counting add up to
 abbrev Counted : Bool → List Line → Type 0

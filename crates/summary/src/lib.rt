@@ -1,13 +1,11 @@
 // Summaries: the loops of the original's `summary`, for a message that is trimmed. There is no heap: the length is found first,
 // then the answer is written to the buffer's front.
-ghost use mathlib.Core.Bool.{not, true};
+ghost use mathlib.Core.Bool.{true};
 ghost use mathlib.Core.List.{[], _++_};
 ghost use mathlib.Core.Path.{_≡_};
 ghost use Prim.Native.Nat.{_+_, _-_, _≤_};
-ghost use lib.Dec.{eqb};
 ghost use lib.ListN.{length, take, drop};
 ghost use Rattle.rules.specs.Answers.{afterwards, valueFoundSays, writtenAnswer};
-ghost use Rattle.rules.specs.Lists.{run};
 ghost use Rattle.rules.specs.Summary.{dropBlanks, folded, pieces, spaced, many};
 ghost use Rattle.summary.specs.Put.{put};
 ghost use Rattle.summary.specs.Spaces.{spaceForLF, withSpaces};

@@ -7,7 +7,7 @@ use native.Mathlib.Nat.{add-assoc}
 use native.Mathlib.Omega.{arith}
 use borrow.Author.Tests.{le-ltb}
 use lib.ListN.{length}
-use Rattle.rules.specs.Answers.{Said, says, afterwards, writtenAnswer}
+use Rattle.rules.specs.Answers.{says, afterwards, writtenAnswer}
 use Rattle.rules.specs.Trailer.{unfolded, valueIsWritten}
 use Rattle.rules.specs.White.{trim, trimAt}
 use Rattle.value.specs.Value.{valueAnswer, valueBuffer}

@@ -2,7 +2,7 @@
 ghost use mathlib.Core.Path.{_≡_};
 ghost use Prim.Native.Nat.{_≤_};
 ghost use lib.ListN.{length};
-ghost use Rattle.rules.specs.Trailer.{asked, attribution, author, isOf, lookup, only, walkFrom};
+ghost use Rattle.rules.specs.Trailer.{attribution, author, isOf, lookup, only, walkFrom};
 ghost use Rattle.trailer.specs.Walk.{nextOf};
 ghost use Rattle.walk.specs.Lookup.{isWanted, lookedUp, nextWanted};
 use rules::Kind;

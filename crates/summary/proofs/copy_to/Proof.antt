@@ -2,7 +2,7 @@
 use mathlib.Core.Path.{sym, _∙_}
 use Prim.Native.Nat.{_-_}
 use native.Mathlib.Omega.{arith}
-use lib.ListN.{length, take}
+use lib.ListN.{take}
 use lib.Seq.{length-take-le, take-all}
 use Rattle.summary.proofs.Put.{put-all}
 use borrow.Author.Needs.{needs}

@@ -24,10 +24,24 @@ is-of-requires : tie.Need-is-of-requires
 is-of-requires c κs = search needs
 
 returns-4 : tie.Need-returns-4
-returns-4 c = simp (le-ltb _ _ (c .before .before .before .before .before .if1 .left), le-leb _ _ (c .before .before .before .before .if2 .left), le-leb _ _ (c .before .before .before .if3 .left), sym (c .before .is-of .ensures) ∙ c .if4 .taken)
+returns-4 c =
+    let e = c .before .before .before in
+    simp (
+      le-ltb _ _ (e .before .before .if1 .left),
+      le-leb _ _ (e .before .if2 .left),
+      le-leb _ _ (e .if3 .left),
+      sym (c .before .is-of .ensures) ∙ c .if4 .taken,
+    )
 
 returns-5 : tie.Need-returns-5
-returns-5 c = simp (le-ltb _ _ (c .before .before .before .before .before .if1 .left), le-leb _ _ (c .before .before .before .before .if2 .left), le-leb _ _ (c .before .before .before .if3 .left), sym (c .before .is-of .ensures) ∙ c .if4 .left)
+returns-5 c =
+    let e = c .before .before .before in
+    simp (
+      le-ltb _ _ (e .before .before .if1 .left),
+      le-leb _ _ (e .before .if2 .left),
+      le-leb _ _ (e .if3 .left),
+      sym (c .before .is-of .ensures) ∙ c .if4 .left,
+    )
 
 pub ask-spec : {M : Type 1} → statement M
 ask-spec =

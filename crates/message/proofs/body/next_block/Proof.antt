@@ -26,10 +26,20 @@ enum-told : tie.Need-enum-told
 enum-told c = search needs
 
 returns-4 : tie.Need-returns-4
-returns-4 c = simp (le-ltb _ _ (c .before .before .before .before .before .if1 .left), le-leb _ _ (c .before .before .before .before .if2 .left), le-leb _ _ (c .before .before .before .if3 .left), block-ended (c .before .before .before .before .before .before .before .args .body .now) (c .before .before .before .before .before .before .before .args .cursor .at) (blocksFrom (c .before .before .before .before .before .before .before .args .body .now) (c .before .before .before .before .before .before .before .args .cursor .at) (c .before .before .before .before .before .before .before .args .cursor .start)) (sym (c .before .before .next-block-from .ensures) ∙ c .enum-told .given .1))
+returns-4 c =
+    let n = c .before .before in
+    let a = n .before .before .before .before .before .args in
+    let blocks = blocksFrom (a .body .now) (a .cursor .at) (a .cursor .start) in
+    let none = block-ended (a .body .now) (a .cursor .at) blocks (sym (n .next-block-from .ensures) ∙ c .enum-told .given .1) in
+    simp (le-ltb _ _ (n .before .before .before .if1 .left), le-leb _ _ (n .before .before .if2 .left), le-leb _ _ (n .before .if3 .left), none)
 
 returns-5 : tie.Need-returns-5
-returns-5 c = simp (le-ltb _ _ (c .before .before .before .before .before .before .if1 .left), le-leb _ _ (c .before .before .before .before .before .if2 .left), le-leb _ _ (c .before .before .before .before .if3 .left), block-found (c .before .before .before .before .before .before .before .before .args .body .now) (c .before .before .before .before .before .before .before .before .args .cursor .at) (blocksFrom (c .before .before .before .before .before .before .before .before .args .body .now) (c .before .before .before .before .before .before .before .before .args .cursor .at) (c .before .before .before .before .before .before .before .before .args .cursor .start)) (sym (c .before .before .before .next-block-from .ensures) ∙ c .before .message-end .given .1))
+returns-5 c =
+    let n = c .before .before .before in
+    let a = n .before .before .before .before .before .args in
+    let blocks = blocksFrom (a .body .now) (a .cursor .at) (a .cursor .start) in
+    let first = block-found (a .body .now) (a .cursor .at) blocks (sym (n .next-block-from .ensures) ∙ c .before .message-end .given .1) in
+    simp (le-ltb _ _ (n .before .before .before .if1 .left), le-leb _ _ (n .before .before .if2 .left), le-leb _ _ (n .before .if3 .left), first)
 
 pub next-block-spec : {M : Type 1} → statement M
 next-block-spec =

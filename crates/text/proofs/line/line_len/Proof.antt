@@ -1,8 +1,5 @@
 -- `text::line::line_len` meets its contract: the first line ends with the first LF. Assumes nothing.
-use mathlib.Core.Path.{_≡_, sym, _∙_}
-use Prim.Native.Nat.{ℕ, _+_, _≤_, _<_}
 use native.Mathlib.Omega.{arith}
-use lib.ListN.{length}
 use Rattle.find.proofs.Runs.{until-within}
 use Rattle.text.proofs.Lines.{first-ends, first-within}
 use borrow.Author.Needs.{needs}
