@@ -1,6 +1,6 @@
 /* Sluicepod: the trailers, blocks, title and summary of a commit message.
  *
- * Link libexports.a, which `rt staticlib exports` writes to target/staticlib (x86-64).
+ * Link libexports.a, which tests/archive makes for the machine at hand.
  *
  * Input. A message, title or body is lent as a pointer and its length in bytes. No input may be longer than
  * SLUICEPOD_LIMIT. It is only read, need not be UTF-8, and needs no terminating zero. A pointer must be good for the

@@ -1,5 +1,5 @@
 -- Runs without an LF: a search goes on behind them, forward and backward. Assumes nothing.
-use mathlib.Core.Bool.{Bool, true, false, false≢true, not, _||_}
+use mathlib.Core.Bool.{Bool, true, false, false≢true, not, or-assoc, or-false, _||_}
 use mathlib.Core.List.{List, [], _∷_}
 use mathlib.Core.Path.{_≡_, refl, sym, ap, _∙_}
 use Prim.Native.Nat.{ℕ, zero, suc, _+_, _≤_, _<_}
@@ -10,16 +10,6 @@ use Rattle.rules.proofs.Lists.{run-past}
 use Rattle.rules.specs.Lists.{any, past, run}
 use Rattle.find.specs.Find.{behindLF, isLF, untilLF}
 
-or-comm : (a b : Bool) → (a || b) ≡ (b || a)
-or-comm true true = refl
-or-comm true false = refl
-or-comm false true = refl
-or-comm false false = refl
-
-or-assoc : (a b d : Bool) → (a || (b || d)) ≡ ((a || b) || d)
-or-assoc true b d = refl
-or-assoc false b d = refl
-
 or-none : (a b : Bool) → (a || b) ≡ false → (a ≡ false) × (b ≡ false)
 or-none true b e = absurd (false≢true (sym e))
 or-none false b e = (refl, e)
@@ -27,8 +17,8 @@ or-none false b e = (refl, e)
 -- one byte more of a run
 pub any-next : (p : ℕ → Bool) (s : List ℕ) (i : ℕ) → i < length s → any p (take (suc i) s) ≡ (any p (take i s) || p (getD s i 0))
 any-next p [] i h = absurd (omega arith)
-any-next p (x ∷ s) zero h = or-comm (p x) false
-any-next p (x ∷ s) (suc i) h = ap (λ (b : Bool). p x || b) (any-next p s i (omega arith)) ∙ or-assoc (p x) (any p (take i s)) (p (getD s i 0))
+any-next p (x ∷ s) zero h = or-false (p x)
+any-next p (x ∷ s) (suc i) h = ap (λ (b : Bool). p x || b) (any-next p s i (omega arith)) ∙ sym (or-assoc (p x) (any p (take i s)) (p (getD s i 0)))
 
 -- a run is a part of what is searched: of `k` bytes from `i` on
 pub past-run : (k : ℕ) (s : List ℕ) (i : ℕ) → i + k ≤ length s → any isLF (take k (drop i s)) ≡ false

@@ -1,6 +1,6 @@
 -- `text::fixed::eq_ignore_ascii_case` meets its contract. The invariant: the two are the same, ASCII case aside, just where they
 -- were alike so far and what is left of them is the same. Assumes nothing.
-use mathlib.Core.Bool.{Bool, true, false, _&&_}
+use mathlib.Core.Bool.{Bool, true, false, and-assoc, and-true, _&&_}
 use mathlib.Core.List.{List, [], _∷_, map}
 use mathlib.Core.Path.{_≡_, refl, sym, ap, _∙_}
 use Prim.Native.Nat.{ℕ, suc, _+_, _-_, _≤_, _<_}
@@ -26,18 +26,10 @@ differ : (a b : List ℕ) → (length a ≡ length b → ⊥) → same a b ≡ f
 unfolding same
 differ a b n = longer (map lower a) (map lower b) (λ e. n (simp length-map at e))
 
-and-true : (x : Bool) → x && true ≡ x
-and-true true = refl
-and-true false = refl
-
-and-assoc : (x t w : Bool) → x && (t && w) ≡ (x && t) && w
-and-assoc true t w = refl
-and-assoc false t w = refl
-
 step : (a b : List ℕ) (i x y : ℕ) (alike : Bool) → i < length a → i < length b → x ≡ lower (getD a i 0) → y ≡ lower (getD b i 0)
     → alike && same (drop i a) (drop i b) ≡ (alike && eqb x y) && same (drop (i + 1) a) (drop (i + 1) b)
 unfolding same
-step a b i x y alike h k p q = rw (add-one i, drop-cons a i 0, drop-cons b i 0, p, q) (and-assoc alike _ _)
+step a b i x y alike h k p q = rw (add-one i, drop-cons a i 0, drop-cons b i 0, p, q) (sym (and-assoc alike _ _))
 
 over : (a b : List ℕ) (i : ℕ) → length a ≤ i → length b ≤ i → same (drop i a) (drop i b) ≡ true
 unfolding same
