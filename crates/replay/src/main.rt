@@ -1,12 +1,13 @@
 // Reads messages with the original's answers from the file `list`, and prints one line: how many messages there are, if
-// the port answers the same about all of them; otherwise the first message and answer on which the two part.
+// the port answers the same about all of them; otherwise the first message and answer on which the two differ.
 //
-// With one byte of an answer changed, the list makes it print another line than its file `stdout` has, and the gate
-// fails. README.md says how to try that, and how the list was made.
+// Then it does the same with the small lists of the file `changed`, in each of which one answer is wrong, and prints a line
+// for each: if it compared nothing, they would say that all agree. README.md says how the lists were made.
 mod answers;
 
 ghost use lib.ListN.{length};
 ghost use mathlib.Core.Path.{_≡_};
+ghost use Rattle.io.specs.Counts.{Counts};
 use answers::ANSWERS;
 use answers::answer_agrees;
 use answers::print_answer;
@@ -57,6 +58,27 @@ fn replay_all(list: &[u8], out: &mut [u8]) {
     print_agreement(number, is_end(list, place));
 }
 
+// Replays each of the small lists, behind its name.
+fn replay_each(lists: &[u8], out: &mut [u8]) {
+    let count = two_bytes_at(lists, Place::At(0));
+    let mut place = count.next;
+    let mut number = 0;
+    while number < count.value {
+        let name = bytes_at(lists, place);
+        let name_start = name.start;
+        let name_end = name.end;
+        let behind = name.next;
+        let list = bytes_at(lists, behind);
+        let start = list.start;
+        let end = list.end;
+        io::write_all(STDOUT_FILENO, &lists[name_start..name_end]);
+        io::write_all(STDOUT_FILENO, b": ");
+        replay_all(&lists[start..end], out);
+        place = list.next;
+        number += 1;
+    }
+}
+
 // Whether a place is the list's end.
 fn is_end(list: &[u8], place: Place) -> bool {
     match place {
@@ -85,6 +107,20 @@ fn print_agreement(messages: usize, is_end: bool) {
     io::write_all(STDOUT_FILENO, b" messages agree\n");
 }
 
+// Reads a file into `list`: how many bytes it has.
+fn read_file(name: &[u8], list: &mut [u8]) -> usize
+    ensures { λ r. ⌜ Counts r (now (list .exit)) ⌝ }
+{
+    let fd = os::open_read(name);
+    if fd < 0 {
+        os::fail(name);
+        return 0;
+    }
+    let n = io::read_full(fd, list);
+    libc::close(fd);
+    n
+}
+
 // Room for the list.
 fn list_buffer() -> [u8; 393216]
     ensures { λ r. ⌜ 393216 ≡ length r ⌝ }
@@ -93,14 +129,10 @@ fn list_buffer() -> [u8; 393216]
 }
 
 fn main() {
-    let fd = os::open_read(b"list");
-    if fd < 0 {
-        os::fail(b"list");
-        return;
-    }
     let mut list = list_buffer();
-    let n = io::read_full(fd, &mut list);
-    libc::close(fd);
     let mut out = io::buffer();
+    let n = read_file(b"list", &mut list);
     replay_all(&list[..n], &mut out);
+    let n = read_file(b"changed", &mut list);
+    replay_each(&list[..n], &mut out);
 }

@@ -1,7 +1,7 @@
 //! How the list is laid out.
 
 use compare::{
-    answers::{names, Attribution, Block, Part, Reading, Trailer, Value},
+    answers::{names, Attribution, Block, Part, Trailer, Value},
     original,
 };
 
@@ -9,18 +9,32 @@ use compare::{
 const MORE: usize = 1;
 const NO_MORE: usize = 0;
 
+/// What the answers are about, as the program prints it, in the list's order.
+pub const ANSWERS: [&str; 10] = [
+    "title and body",
+    "title summary",
+    "message summary",
+    "message trailers",
+    "block start",
+    "trailers",
+    "filtered trailers",
+    "blocks",
+    "lookup",
+    "token questions",
+];
+
 /// How many messages, in two bytes, and each of them with its answers.
 pub fn list(messages: &[Vec<u8>]) -> Vec<u8> {
     let mut out = Vec::new();
     two_bytes(&mut out, messages.len());
     for (turn, message) in messages.iter().enumerate() {
         bytes(&mut out, message);
-        answers(&mut out, message, &original::read(message), turn);
+        out.extend(answers(message, turn).concat());
     }
     out
 }
 
-fn two_bytes(out: &mut Vec<u8>, number: usize) {
+pub fn two_bytes(out: &mut Vec<u8>, number: usize) {
     out.extend_from_slice(&u16::try_from(number).expect("a number of two bytes").to_le_bytes());
 }
 
@@ -36,29 +50,34 @@ fn number(out: &mut Vec<u8>, number: usize) {
 }
 
 /// The length, and the bytes.
-fn bytes(out: &mut Vec<u8>, bytes: &[u8]) {
+pub fn bytes(out: &mut Vec<u8>, bytes: &[u8]) {
     number(out, bytes.len());
     out.extend_from_slice(bytes);
 }
 
 /// The answers about an input that is taken as a message, as a body and as a token.
-fn answers(out: &mut Vec<u8>, input: &[u8], reading: &Reading, turn: usize) {
-    number(out, reading.title_end);
+pub fn answers(input: &[u8], turn: usize) -> [Vec<u8>; 10] {
+    let reading = original::read(input);
+    let mut answers: [Vec<u8>; 10] = Default::default();
+    let [title_and_body, summary, message_summary, message_trailers, start, trailers, filtered, found, named, as_token] =
+        &mut answers;
+    number(title_and_body, reading.title_end);
     // A body never starts at 0.
-    number(out, reading.body_start.unwrap_or(0));
-    value(out, &reading.summary);
-    value(out, &reading.message_summary);
-    number(out, original::message_walk_start(input));
-    walk(out, input, &reading.message_trailers);
+    number(title_and_body, reading.body_start.unwrap_or(0));
+    value(summary, &reading.summary);
+    value(message_summary, &reading.message_summary);
+    number(message_trailers, original::message_walk_start(input));
+    walk(message_trailers, input, &reading.message_trailers);
 
-    number(out, reading.block_start);
-    walk(out, input, &reading.trailers);
-    for filtered in &reading.filtered {
-        walk(out, input, filtered);
+    number(start, reading.block_start);
+    walk(trailers, input, &reading.trailers);
+    for of_kind in &reading.filtered {
+        walk(filtered, input, of_kind);
     }
-    blocks(out, &reading.blocks);
-    lookup(out, input, &reading.trailers, turn);
-    number(out, questions(reading.as_token));
+    blocks(found, &reading.blocks);
+    lookup(named, input, &reading.trailers, turn);
+    number(as_token, questions(reading.as_token));
+    answers
 }
 
 /// 0 for a part that is empty, wherever it is; 1, its start and its end for one that is not; 2 and the bytes for what

@@ -1,9 +1,11 @@
-//! Writes crates/replay/data/list: messages, each with the original's answers. crates/replay/README.md says how the list
-//! is laid out; the program of that crate holds the port's answers to it.
+//! Writes crates/replay/data/list: messages, each with the original's answers; and data/changed: small lists in which one
+//! byte of an answer is changed. crates/replay/README.md says how they are laid out; the program of that crate holds the
+//! port's answers to them.
 //!
-//!     record               writes the list
+//!     record               writes the lists, and what the program must print of them
 //!     record show NUMBER   prints a message of it, counted from 0, and the original's answers
 
+mod changed;
 mod layout;
 mod messages;
 
@@ -39,7 +41,9 @@ fn write() -> io::Result<()> {
     let replay = PathBuf::from(env!("CARGO_MANIFEST_DIR")).join("../../crates/replay");
     fs::create_dir_all(replay.join("data"))?;
     fs::write(replay.join("data/list"), &list)?;
-    fs::write(replay.join("stdout"), format!("{} messages agree\n", messages.len()))?;
+    let (changed, printed) = changed::lists();
+    fs::write(replay.join("data/changed"), &changed)?;
+    fs::write(replay.join("stdout"), format!("{} messages agree\n{printed}", messages.len()))?;
     println!("record: {} messages, {} bytes", messages.len(), list.len());
     Ok(())
 }
