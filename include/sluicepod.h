@@ -41,8 +41,8 @@ extern "C" {
 /* The longest input, in bytes. */
 #define SLUICEPOD_LIMIT 1048576
 
-/* How many entries `result` must have: one for how many values there are, and at most six values. */
-#define SLUICEPOD_RESULT_LEN 7
+/* How many entries `result` must have: one for how many values there are, and at most fifteen values. */
+#define SLUICEPOD_RESULT_LEN 16
 
 /* The codes. */
 enum sluicepod_code {

@@ -168,7 +168,7 @@ pub fn is_of_kind(token: &[u8], kind: Kind) -> Result<bool, Refusal> {
 }
 
 /// How many entries the calls ask of `result`: the first says how many values there are, and they follow it.
-const RESULT_LEN: usize = 7;
+const RESULT_LEN: usize = 16;
 
 /// Lends `result` to a call, and gives back what it wrote there, or its refusal.
 fn ask(call: impl FnOnce(*mut usize, usize) -> u32) -> Result<[usize; RESULT_LEN], Refusal> {

@@ -11,7 +11,7 @@
 #define OUT out, sizeof out
 #define RESULT result, SLUICEPOD_RESULT_LEN
 
-enum { ENTRIES = 9, KEPT_ENTRY = 77, KEPT_BYTE = '.' };
+enum { ENTRIES = SLUICEPOD_RESULT_LEN + 2, KEPT_ENTRY = 77, KEPT_BYTE = '.' };
 
 static uint8_t out[32];
 static size_t result[ENTRIES];

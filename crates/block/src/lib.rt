@@ -35,7 +35,7 @@ fn message_len(cursor: &[u8]) -> usize
         let rest = &cursor[len..];
         if let TrailerLine::At {
             token_end: _,
-            separator: _,
+            value_start: _,
         } = parse_trailer_line(rest) {
             return len;
         }
@@ -51,7 +51,7 @@ fn trailers_len(cursor: &[u8]) -> usize
     let mut len = 0;
     while let TrailerAtStart::Trailer {
         token_end: _,
-        separator: _,
+        value_start: _,
         len: trailer,
     } = trailer_at_start(&cursor[len..]) {
         len += trailer;

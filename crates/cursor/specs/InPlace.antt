@@ -2,7 +2,7 @@
 use mathlib.Core.List.{List, [], _∷_}
 use Prim.Native.Nat.{ℕ, zero, suc}
 use lib.ListN.{length}
-use Rattle.message.specs.Body.{stepAnswer}
+use Rattle.body.specs.Body.{stepAnswer}
 use Rattle.rules.specs.Answers.{Said, says}
 use Rattle.rules.specs.Trailer.{Trailer, endOf, only, walkFrom}
 use Rattle.rules.specs.declared.Kind.{Kind}

@@ -3,9 +3,9 @@ ghost use mathlib.Core.Path.{_≡_};
 ghost use lib.ListN.{length};
 ghost use Rattle.rules.specs.Answers.{trailerStepSays};
 ghost use Rattle.rules.specs.declared.Kind.{Kind};
-ghost use Rattle.message.specs.Body.{stepAnswer, stepBuffer};
+ghost use Rattle.body.specs.Body.{stepAnswer, stepBuffer};
 ghost use Rattle.cursor.specs.InPlace.{cursorLeft};
-use message::body::next_trailer;
+use body::next_trailer;
 use rules::Cursor;
 use rules::TrailerStep;
 

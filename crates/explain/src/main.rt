@@ -1,4 +1,4 @@
 // Prints the reading of the message on standard input.
 fn main() {
-    reading::explain(libc::STDIN_FILENO);
+    explaining::explain(libc::STDIN_FILENO);
 }

@@ -2,7 +2,7 @@
 use mathlib.Core.List.{List, []}
 use Prim.Native.Nat.{ℕ}
 use Rattle.rules.specs.Answers.{Said, says}
-use Rattle.message.specs.Body.{questionAnswer, stepAnswer, stepBuffer}
+use Rattle.body.specs.Body.{questionAnswer, stepAnswer, stepBuffer}
 use Rattle.numbers.specs.declared.Asked.{Asked}
 
 -- 254 where the number is no kind's, with no values, and the buffer is as it was

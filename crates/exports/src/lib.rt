@@ -1,41 +1,38 @@
 // The public calls for C and Rust, as numbers and slices: include/sluicepod.h says how they are called there. Each makes one
-// call of crates/message, turns its answer into `Numbers` and puts them into `result`.
+// call of crates/body or crates/message and puts the numbers of its answer into `result`.
 ghost use mathlib.Core.Path.{_≡_};
 ghost use lib.ListN.{length};
-ghost use Rattle.message.specs.Body.{blockAnswer, findAnswer, findBuffer, startAnswer};
+ghost use Rattle.body.specs.Body.{blockAnswer, findAnswer, findBuffer, startAnswer};
 ghost use Rattle.message.specs.Decode.{titleAnswer};
 ghost use Rattle.message.specs.Message.{summaryAnswer, summaryBuffer, walkAnswer};
 ghost use Rattle.numbers.specs.Numbers.{bufferOf, codeOf, kindOf, resultOf};
 ghost use Rattle.exports.specs.ByKind.{questionOf, stepLeaves, stepOf};
-use message::body::ask;
-use message::body::find_trailer;
-use message::body::next_block;
-use message::body::next_trailer_of;
-use message::body::trailer_block_start;
+use body::find_trailer;
+use body::is_of_kind;
+use body::next_block;
+use body::next_trailer_of;
+use body::trailer_block_start;
 use message::decode::message_title_and_body;
 use message::message_summary;
 use message::message_trailers;
 use message::summary;
 use numbers::Asked;
-use numbers::block_numbers;
-use numbers::found_numbers;
+use numbers::RESULT_LEN;
 use numbers::kind_of;
 use numbers::put;
-use numbers::question_numbers;
-use numbers::said;
-use numbers::start_numbers;
-use numbers::step_numbers;
-use numbers::title_numbers;
-use numbers::value_numbers;
-use numbers::walk_numbers;
+use numbers::put_block;
+use numbers::put_found;
+use numbers::put_start;
+use numbers::put_step;
+use numbers::put_title;
+use numbers::put_value;
+use numbers::put_walk;
+use numbers::put_yes_no;
 use rules::BlockCursor;
 use rules::Cursor;
 use rules::Part;
 
-// How many entries `result` must have.
-const RESULT_LEN: usize = 7;
-
-// The code where it has fewer.
+// The code where `result` is too short.
 const SHORT_RESULT: u32 = 255;
 
 // The code of a number that is no kind's.
@@ -50,7 +47,7 @@ pub extern "C" fn sluicepod_title_and_body(message: &[u8], result: &mut [usize])
     if result.len() < RESULT_LEN {
         return SHORT_RESULT;
     }
-    put(title_numbers(message_title_and_body(message)), result)
+    put_title(message_title_and_body(message), result)
 }
 
 // The summary of a title: where it stands.
@@ -63,7 +60,7 @@ pub extern "C" fn sluicepod_summary(title: &[u8], out: &mut [u8], result: &mut [
     if result.len() < RESULT_LEN {
         return SHORT_RESULT;
     }
-    put(value_numbers(summary(title, out)), result)
+    put_value(summary(title, out), result)
 }
 
 // The summary of a whole message: where it stands.
@@ -80,7 +77,7 @@ pub extern "C" fn sluicepod_message_summary(
     if result.len() < RESULT_LEN {
         return SHORT_RESULT;
     }
-    put(value_numbers(message_summary(message, out)), result)
+    put_value(message_summary(message, out), result)
 }
 
 // Where the trailer block of a body starts.
@@ -92,7 +89,7 @@ pub extern "C" fn sluicepod_block_start(body: &[u8], result: &mut [usize]) -> u3
     if result.len() < RESULT_LEN {
         return SHORT_RESULT;
     }
-    put(start_numbers(trailer_block_start(body)), result)
+    put_start(trailer_block_start(body), result)
 }
 
 // Where the walk of a message's trailers begins.
@@ -104,7 +101,7 @@ pub extern "C" fn sluicepod_message_trailers(message: &[u8], result: &mut [usize
     if result.len() < RESULT_LEN {
         return SHORT_RESULT;
     }
-    put(walk_numbers(message_trailers(message)), result)
+    put_walk(message_trailers(message), result)
 }
 
 // The next trailer from `at` on whose token is of the kind.
@@ -124,12 +121,9 @@ pub extern "C" fn sluicepod_next_trailer(
         return SHORT_RESULT;
     }
     let Asked::Of(kind) = kind_of(kind) else {
-        return put(said(NO_KIND, 0, [0, 0, 0, 0, 0, 0]), result);
+        return put(NO_KIND, &[], result);
     };
-    put(
-        step_numbers(next_trailer_of(body, Cursor { at }, kind, out)),
-        result,
-    )
+    put_step(next_trailer_of(body, Cursor { at }, kind, out), result)
 }
 
 // The first trailer of a body that has the name.
@@ -147,7 +141,7 @@ pub extern "C" fn sluicepod_find_trailer(
     if result.len() < RESULT_LEN {
         return SHORT_RESULT;
     }
-    put(found_numbers(find_trailer(body, name, out)), result)
+    put_found(find_trailer(body, name, out), result)
 }
 
 // The next block from `at` on, where the trailer block starts at `start`.
@@ -164,10 +158,7 @@ pub extern "C" fn sluicepod_next_block(
     if result.len() < RESULT_LEN {
         return SHORT_RESULT;
     }
-    put(
-        block_numbers(next_block(body, BlockCursor { at, start })),
-        result,
-    )
+    put_block(next_block(body, BlockCursor { at, start }), result)
 }
 
 // Whether the part of `input` from `start` up to `end` is a token of the kind.
@@ -186,10 +177,7 @@ pub extern "C" fn sluicepod_is_of_kind(
         return SHORT_RESULT;
     }
     let Asked::Of(kind) = kind_of(kind) else {
-        return put(said(NO_KIND, 0, [0, 0, 0, 0, 0, 0]), result);
+        return put(NO_KIND, &[], result);
     };
-    put(
-        question_numbers(ask(input, Part { start, end }, kind)),
-        result,
-    )
+    put_yes_no(is_of_kind(input, Part { start, end }, kind), result)
 }

@@ -38,9 +38,3 @@ before-run (suc k) s i h e =
     let later : behindLF s (suc i) ≡ behindLF s (suc i + k) = before-run k s (suc i) (omega arith) (n .1) in
     let size : i + suc k ≡ suc i + k = omega arith in
     rw size (rw (n .0) at later)
-
--- an LF is looked for in what is there
-pub until-within : (s : List ℕ) → untilLF s ≤ length s
-until-within s =
-    let p : ℕ → Bool = λ c. not (isLF c) in
-    omega (arith, length-append (run p s) (past p s), ap length (run-past p s))

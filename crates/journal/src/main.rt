@@ -21,10 +21,10 @@ fn list_entry(i: usize) {
     io::write_all(STDOUT_FILENO, b"== ");
     io::write_all(STDOUT_FILENO, &name[..len]);
     io::write_all(STDOUT_FILENO, b"\n");
-    listing::list(fd);
+    printing::list(fd);
     libc::close(fd);
     io::write_all(STDOUT_FILENO, b"= reading\n");
     let again = os::open_read(&name[..len]);
-    reading::explain(again);
+    explaining::explain(again);
     libc::close(again);
 }

@@ -1,4 +1,4 @@
 // Lists the trailers of the message on standard input.
 fn main() {
-    listing::list(libc::STDIN_FILENO);
+    printing::list(libc::STDIN_FILENO);
 }

@@ -1,2 +1,2 @@
--- What a call's parts answer, as document 01 says it.
-pub mod Calls
+-- What the parts of a summary answer, as document 01 says it.
+pub mod Summarised

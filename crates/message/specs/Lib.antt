@@ -1,4 +1,3 @@
--- The statements of the public calls, by the original's three files: decode.rs, body.rs, mod.rs.
+-- The statements of the calls on a whole message, by the original's files: decode.rs, mod.rs.
 pub mod Decode
-pub mod Body
 pub mod Message

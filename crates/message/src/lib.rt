@@ -1,5 +1,4 @@
-// The public calls, in the original's three files: decode.rs, body.rs, and mod.rs, which is this one.
-pub mod body;
+// The calls on a whole message, in the original's files: decode.rs, and mod.rs, which is this one.
 pub mod decode;
 
 ghost use mathlib.Core.Path.{_≡_};

@@ -3,48 +3,35 @@
 -- (crates/rules/specs/Answers, crates/message/specs); the code 255, and 254 of crates/exports/specs/ByKind, are added here.
 use mathlib.Core.Bool.{Bool}
 use mathlib.Core.List.{List, [], _∷_, _++_}
-use mathlib.Core.Path.{_≡_}
-use Prim.Native.Nat.{ℕ, suc, _≤_}
+use Prim.Native.Nat.{ℕ, suc}
 use lib.Dec.{ltb}
-use lib.ListN.{length, take, drop, getD}
-use Rattle.rules.specs.Answers.{Said, says}
+use lib.ListN.{length, drop, getD}
+use Rattle.rules.specs.Answers.{Said, number, values}
 use Rattle.rules.specs.Lists.{if_then_else_}
 use Rattle.rules.specs.declared.Kind.{Kind}
 use Rattle.numbers.specs.declared.Asked.{Asked}
-use Rattle.numbers.specs.declared.Numbers.{Numbers}
 
--- Every call asks for a `result` of seven entries: one for how many values there are, and six, since no answer has more.
+-- Every call asks for a `result` of sixteen entries: one for how many values there are, and fifteen, since no answer has more.
+abbrev pub resultLength : ℕ
+resultLength = 16
+
 abbrev pub short : List ℕ → Bool
-short result = ltb (length result) 7
-
--- an answer's number and its values
-abbrev pub numberOf : Said → ℕ
-numberOf (says number values) = number
-
-abbrev pub valuesOf : Said → List ℕ
-valuesOf (says number values) = values
+short result = ltb (length result) resultLength
 
 -- the code: 255 where `result` is too short, otherwise the answer's number
 abbrev pub codeOf : Said → List ℕ → ℕ
-codeOf said result = if short result then 255 else numberOf said
+codeOf said result = if short result then 255 else number said
 
 -- what is in `result` then: where it is too short, what was in it; otherwise how many values there are, the values, and
 -- behind them what was there
 abbrev pub resultOf : Said → List ℕ → List ℕ
 resultOf said result =
     if short result then result
-    else length (valuesOf said) ∷ (valuesOf said ++ drop (suc (length (valuesOf said))) result)
+    else length (values said) ∷ (values said ++ drop (suc (length (values said))) result)
 
 -- what is in the buffer then: where `result` is too short, what was in it; otherwise what the call leaves there
 abbrev pub bufferOf : List ℕ → List ℕ → List ℕ → List ℕ
 bufferOf left buffer result = if short result then buffer else left
-
--- an answer, held as numbers
-abbrev pub saidBy : Numbers → Said
-saidBy a = says (a .code) (take (a .count) (a .values))
-
-abbrev pub Tells : Numbers → Said → Type 0
-Tells a said = (saidBy a ≡ said) × (a .count ≤ 6)
 
 -- ---- a kind by its number, in the order of `Kind`
 

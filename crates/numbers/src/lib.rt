@@ -2,10 +2,10 @@
 // how they are put into a lent slice.
 ghost use mathlib.Core.List.{[], _∷_};
 ghost use mathlib.Core.Path.{_≡_};
-ghost use Prim.Native.Nat.{_≤_};
-ghost use lib.ListN.{length, take};
+ghost use Prim.Native.Nat.{_≤_, _<_};
+ghost use lib.ListN.{length};
 ghost use Rattle.rules.specs.Answers.{blockStepSays, refused, says, startSays, titleSays, trailerFoundSays, trailerStepSays, valueFoundSays, valueSays, walkFoundSays, yesNoSays};
-ghost use Rattle.numbers.specs.Numbers.{Tells, codeOf, kindOf, resultOf, saidBy};
+ghost use Rattle.numbers.specs.Numbers.{codeOf, kindOf, resultLength, resultOf};
 use rules::BlockStep;
 use rules::Kind;
 use rules::Refusal;
@@ -18,12 +18,8 @@ use rules::ValueFound;
 use rules::WalkFound;
 use rules::YesNo;
 
-// An answer as numbers: its code, how many values it has, and the values.
-pub struct Numbers {
-    pub code: u32,
-    pub count: usize,
-    pub values: [usize; 6],
-}
+// How many entries `result` must have: the first says how many values there are, and no answer has more than the others hold.
+pub const RESULT_LEN: usize = 16;
 
 // Of `place_of`: 0 for the input or 1 for the buffer, the value's start and its end.
 struct Place {
@@ -38,40 +34,47 @@ pub enum Asked {
     NoKind,
 }
 
-// An answer of `count` values, which stand first in `values`.
-pub fn said(code: u32, count: usize, values: [usize; 6]) -> Numbers
-    requires { ⌜ count ≤ 6 ⌝ }
-    ensures { λ r. ⌜ Tells r (says code (take count values)) ⌝ }
+// Puts an answer's values behind their count at the front of `result`; returns its code.
+pub fn put(code: u32, values: &[usize], result: &mut [usize]) -> u32
+    requires { ⌜ (length (now values) < resultLength) × (resultLength ≤ length (now result)) ⌝ }
+    ensures { λ r. ⌜ r ≡ codeOf (says code (now (values .entry))) (now (result .entry)) ⌝ }
+    ensures { λ _. ⌜ now (result .exit) ≡ resultOf (says code (now (values .entry))) (now (result .entry)) ⌝ }
 {
-    Numbers {
-        code,
-        count,
-        values,
+    result[0] = values.len();
+    let mut i = 0;
+    while i < values.len() {
+        result[1 + i] = values[i];
+        i += 1;
     }
+    code
 }
 
 // Of a refusal, which every answer may be.
-fn refusal_numbers(refusal: Refusal) -> Numbers
-    ensures { λ r. ⌜ Tells r (refused refusal) ⌝ }
+pub fn put_refusal(answer: Refusal, result: &mut [usize]) -> u32
+    requires { ⌜ resultLength ≤ length (now result) ⌝ }
+    ensures { λ r. ⌜ r ≡ codeOf (refused answer) (now (result .entry)) ⌝ }
+    ensures { λ _. ⌜ now (result .exit) ≡ resultOf (refused answer) (now (result .entry)) ⌝ }
 {
-    match refusal {
-        Refusal::TooLong => said(1, 0, [0, 0, 0, 0, 0, 0]),
-        Refusal::BadPlace => said(2, 0, [0, 0, 0, 0, 0, 0]),
-        Refusal::NoRoom(needed) => said(3, 1, [needed, 0, 0, 0, 0, 0]),
+    match answer {
+        Refusal::TooLong => put(1, &[], result),
+        Refusal::BadPlace => put(2, &[], result),
+        Refusal::NoRoom(needed) => put(3, &[needed], result),
     }
 }
 
 // Of an answer of `message_title_and_body`.
-pub fn title_numbers(answer: TitleAndBody) -> Numbers
-    ensures { λ r. ⌜ Tells r (titleSays answer) ⌝ }
+pub fn put_title(answer: TitleAndBody, result: &mut [usize]) -> u32
+    requires { ⌜ resultLength ≤ length (now result) ⌝ }
+    ensures { λ r. ⌜ r ≡ codeOf (titleSays answer) (now (result .entry)) ⌝ }
+    ensures { λ _. ⌜ now (result .exit) ≡ resultOf (titleSays answer) (now (result .entry)) ⌝ }
 {
     match answer {
         TitleAndBody::Body {
             title_end,
             body_start,
-        } => said(0, 2, [title_end, body_start, 0, 0, 0, 0]),
-        TitleAndBody::NoBody { title_end } => said(0, 1, [title_end, 0, 0, 0, 0, 0]),
-        TitleAndBody::Refused(refusal) => refusal_numbers(refusal),
+        } => put(0, &[title_end, body_start], result),
+        TitleAndBody::NoBody { title_end } => put(0, &[title_end], result),
+        TitleAndBody::Refused(refusal) => put_refusal(refusal, result),
     }
 }
 
@@ -94,50 +97,57 @@ fn place_of(value: Value) -> Place
 }
 
 // Of an answer of `summary` and `message_summary`.
-pub fn value_numbers(answer: ValueFound) -> Numbers
-    ensures { λ r. ⌜ Tells r (valueFoundSays answer) ⌝ }
+pub fn put_value(answer: ValueFound, result: &mut [usize]) -> u32
+    requires { ⌜ resultLength ≤ length (now result) ⌝ }
+    ensures { λ r. ⌜ r ≡ codeOf (valueFoundSays answer) (now (result .entry)) ⌝ }
+    ensures { λ _. ⌜ now (result .exit) ≡ resultOf (valueFoundSays answer) (now (result .entry)) ⌝ }
 {
     match answer {
         ValueFound::At(value) => {
             let at = place_of(value);
-            said(0, 3, [at.held, at.start, at.end, 0, 0, 0])
+            put(0, &[at.held, at.start, at.end], result)
         }
-        ValueFound::Refused(refusal) => refusal_numbers(refusal),
+        ValueFound::Refused(refusal) => put_refusal(refusal, result),
     }
 }
 
 // Of an answer of `trailer_block_start`.
-pub fn start_numbers(answer: StartFound) -> Numbers
-    ensures { λ r. ⌜ Tells r (startSays answer) ⌝ }
+pub fn put_start(answer: StartFound, result: &mut [usize]) -> u32
+    requires { ⌜ resultLength ≤ length (now result) ⌝ }
+    ensures { λ r. ⌜ r ≡ codeOf (startSays answer) (now (result .entry)) ⌝ }
+    ensures { λ _. ⌜ now (result .exit) ≡ resultOf (startSays answer) (now (result .entry)) ⌝ }
 {
     match answer {
-        StartFound::At(start) => said(0, 1, [start, 0, 0, 0, 0, 0]),
-        StartFound::Refused(refusal) => refusal_numbers(refusal),
+        StartFound::At(start) => put(0, &[start], result),
+        StartFound::Refused(refusal) => put_refusal(refusal, result),
     }
 }
 
 // Of an answer of `message_trailers`.
-pub fn walk_numbers(answer: WalkFound) -> Numbers
-    ensures { λ r. ⌜ Tells r (walkFoundSays answer) ⌝ }
+pub fn put_walk(answer: WalkFound, result: &mut [usize]) -> u32
+    requires { ⌜ resultLength ≤ length (now result) ⌝ }
+    ensures { λ r. ⌜ r ≡ codeOf (walkFoundSays answer) (now (result .entry)) ⌝ }
+    ensures { λ _. ⌜ now (result .exit) ≡ resultOf (walkFoundSays answer) (now (result .entry)) ⌝ }
 {
     match answer {
-        WalkFound::From(cursor) => said(0, 1, [cursor.at, 0, 0, 0, 0, 0]),
-        WalkFound::Refused(refusal) => refusal_numbers(refusal),
+        WalkFound::From(cursor) => put(0, &[cursor.at], result),
+        WalkFound::Refused(refusal) => put_refusal(refusal, result),
     }
 }
 
 // Of an answer of `next_trailer_of`.
-pub fn step_numbers(answer: TrailerStep) -> Numbers
-    ensures { λ r. ⌜ Tells r (trailerStepSays answer) ⌝ }
+pub fn put_step(answer: TrailerStep, result: &mut [usize]) -> u32
+    requires { ⌜ resultLength ≤ length (now result) ⌝ }
+    ensures { λ r. ⌜ r ≡ codeOf (trailerStepSays answer) (now (result .entry)) ⌝ }
+    ensures { λ _. ⌜ now (result .exit) ≡ resultOf (trailerStepSays answer) (now (result .entry)) ⌝ }
 {
     match answer {
         TrailerStep::Trailer { found, next } => {
             let value = found.value;
             let at = place_of(value);
-            said(
+            put(
                 0,
-                6,
-                [
+                &[
                     found.token.start,
                     found.token.end,
                     at.held,
@@ -145,78 +155,69 @@ pub fn step_numbers(answer: TrailerStep) -> Numbers
                     at.end,
                     next.at,
                 ],
+                result,
             )
         }
-        TrailerStep::End(next) => said(0, 1, [next.at, 0, 0, 0, 0, 0]),
-        TrailerStep::Refused(refusal) => refusal_numbers(refusal),
+        TrailerStep::End(next) => put(0, &[next.at], result),
+        TrailerStep::Refused(refusal) => put_refusal(refusal, result),
     }
 }
 
 // Of an answer of `find_trailer`.
-pub fn found_numbers(answer: TrailerFound) -> Numbers
-    ensures { λ r. ⌜ Tells r (trailerFoundSays answer) ⌝ }
+pub fn put_found(answer: TrailerFound, result: &mut [usize]) -> u32
+    requires { ⌜ resultLength ≤ length (now result) ⌝ }
+    ensures { λ r. ⌜ r ≡ codeOf (trailerFoundSays answer) (now (result .entry)) ⌝ }
+    ensures { λ _. ⌜ now (result .exit) ≡ resultOf (trailerFoundSays answer) (now (result .entry)) ⌝ }
 {
     match answer {
         TrailerFound::Trailer(found) => {
             let value = found.value;
             let at = place_of(value);
-            said(
+            put(
                 0,
-                5,
-                [
+                &[
                     found.token.start,
                     found.token.end,
                     at.held,
                     at.start,
                     at.end,
-                    0,
                 ],
+                result,
             )
         }
-        TrailerFound::NoSuchTrailer => said(0, 0, [0, 0, 0, 0, 0, 0]),
-        TrailerFound::Refused(refusal) => refusal_numbers(refusal),
+        TrailerFound::NoSuchTrailer => put(0, &[], result),
+        TrailerFound::Refused(refusal) => put_refusal(refusal, result),
     }
 }
 
 // Of an answer of `next_block`.
-pub fn block_numbers(answer: BlockStep) -> Numbers
-    ensures { λ r. ⌜ Tells r (blockStepSays answer) ⌝ }
+pub fn put_block(answer: BlockStep, result: &mut [usize]) -> u32
+    requires { ⌜ resultLength ≤ length (now result) ⌝ }
+    ensures { λ r. ⌜ r ≡ codeOf (blockStepSays answer) (now (result .entry)) ⌝ }
+    ensures { λ _. ⌜ now (result .exit) ≡ resultOf (blockStepSays answer) (now (result .entry)) ⌝ }
 {
     match answer {
         BlockStep::Block {
             message_end,
             end,
             next,
-        } => said(0, 4, [message_end, end, next.at, next.start, 0, 0]),
-        BlockStep::End(next) => said(0, 2, [next.at, next.start, 0, 0, 0, 0]),
-        BlockStep::Refused(refusal) => refusal_numbers(refusal),
+        } => put(0, &[message_end, end, next.at, next.start], result),
+        BlockStep::End(next) => put(0, &[next.at, next.start], result),
+        BlockStep::Refused(refusal) => put_refusal(refusal, result),
     }
 }
 
-// Of an answer of `ask`.
-pub fn question_numbers(answer: YesNo) -> Numbers
-    ensures { λ r. ⌜ Tells r (yesNoSays answer) ⌝ }
+// Of an answer of `is_of_kind`.
+pub fn put_yes_no(answer: YesNo, result: &mut [usize]) -> u32
+    requires { ⌜ resultLength ≤ length (now result) ⌝ }
+    ensures { λ r. ⌜ r ≡ codeOf (yesNoSays answer) (now (result .entry)) ⌝ }
+    ensures { λ _. ⌜ now (result .exit) ≡ resultOf (yesNoSays answer) (now (result .entry)) ⌝ }
 {
     match answer {
-        YesNo::Yes => said(0, 1, [1, 0, 0, 0, 0, 0]),
-        YesNo::No => said(0, 1, [0, 0, 0, 0, 0, 0]),
-        YesNo::Refused(refusal) => refusal_numbers(refusal),
+        YesNo::Yes => put(0, &[1], result),
+        YesNo::No => put(0, &[0], result),
+        YesNo::Refused(refusal) => put_refusal(refusal, result),
     }
-}
-
-// Writes how many values the answer has, and the values, to the front of `result`; returns its code.
-pub fn put(answer: Numbers, result: &mut [usize]) -> u32
-    requires { ⌜ (answer .count ≤ 6) × (7 ≤ length (now result)) ⌝ }
-    ensures { λ r. ⌜ r ≡ codeOf (saidBy answer) (now (result .entry)) ⌝ }
-    ensures { λ _. ⌜ now (result .exit) ≡ resultOf (saidBy answer) (now (result .entry)) ⌝ }
-{
-    result[0] = answer.count;
-    let mut i = 0;
-    while i < answer.count {
-        result[1 + i] = answer.values[i];
-        i += 1;
-    }
-    answer.code
 }
 
 // The kind of a number, in the order of `Kind`.

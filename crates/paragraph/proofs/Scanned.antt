@@ -14,7 +14,7 @@ use lib.Seq.{take-append-seam}
 use Rattle.rules.specs.Bytes.{bytes}
 use Rattle.rules.specs.Lines.{Line, lines, text, blank, indented, folds}
 use Rattle.rules.specs.Lists.{if_then_else_, All, filled, join, starts}
-use Rattle.rules.specs.Paragraph.{recognised, leads, Group, Grouped, grouped, groupedLines, leadCount, otherCount, anyRecognised}
+use Rattle.rules.specs.Paragraph.{cherryPicked, signedOff, recognised, leads, Group, Grouped, grouped, groupedLines, leadCount, otherCount, anyRecognised}
 use Rattle.rules.specs.Paragraph.{accepts, accepted, Above, nothing, atTop, under, aboveLines, solid, Body, empty, ended, bodyLines}
 use Rattle.rules.specs.Paragraph.{blockAt, startOf, onto, put, parse, blockStart}
 use Rattle.rules.specs.Trailer.{trailerLine, tokenIn, gapIn}
@@ -40,7 +40,7 @@ unfolding parsed
 told l r q e f = by (trailerLine l) ∙ ap isAt (sym e ∙ f)
   where
     by : (b : Bool)
-        → b ≡ isAt (if b then TrailerLine.At (length (tokenIn l)) (length (tokenIn l) + length (gapIn l)) else TrailerLine.NoTrailer)
+        → b ≡ isAt (if b then TrailerLine.At (length (tokenIn l)) (length (tokenIn l) + length (gapIn l) + 1) else TrailerLine.NoTrailer)
     by true = refl
     by false = refl
 
@@ -93,16 +93,16 @@ blank-put l (ended a (grouped top gs) bs) o n = absurd (true≢false n)
 
 -- ---- the counts are no more than the bytes: a line has one, and one that leads has two
 
-starts-two : (x y : ℕ) (p : List ℕ) (l : Line) → T (starts (x ∷ y ∷ p) l) → 2 ≤ length l
-starts-two x y p [] s = absurd s
-starts-two x y p (c ∷ []) s = absurd (and-right (eqb x c) false s)
-starts-two x y p (c ∷ d ∷ l) s = omega arith
+starts-within : (p : List ℕ) (l : Line) → T (starts p l) → length p ≤ length l
+starts-within [] l s = omega arith
+starts-within (x ∷ p) [] s = absurd s
+starts-within (x ∷ p) (c ∷ l) s = omega (arith, starts-within p l (and-right (eqb x c) (starts p l) s))
 
 recognised-two : (l : Line) → T (recognised l) → 2 ≤ length l
 unfolding recognised
-recognised-two l r = elim (or-cases (starts (bytes "Signed-off-by: ") l) (starts (bytes "(cherry picked from commit ") l) r) [
-  | inl s ↦ starts-two 83 105 (bytes "gned-off-by: ") l s
-  | inr s ↦ starts-two 40 99 (bytes "herry picked from commit ") l s
+recognised-two l r = elim (or-cases (starts signedOff l) (starts cherryPicked l) r) [
+  | inl s ↦ omega (arith, starts-within signedOff l s)
+  | inr s ↦ omega (arith, starts-within cherryPicked l s)
 ]
 
 trailer-two : (l : Line) → T (trailerLine l) → 2 ≤ length l

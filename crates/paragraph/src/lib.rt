@@ -28,14 +28,19 @@ pub struct Paragraph {
     pub scan: Scan,
 }
 
+// The prefixes that Git writes itself.
+const SIGNED_OFF: [u8; 15] = *b"Signed-off-by: ";
+
+const CHERRY_PICKED: [u8; 27] = *b"(cherry picked from commit ";
+
 // Whether a line starts with one of the prefixes that Git writes itself.
 pub fn is_recognized_prefix(line: &[u8]) -> bool
     ensures { λ r. ⌜ r ≡ recognised (now (line .entry)) ⌝ }
 {
-    if starts_with(line, b"Signed-off-by: ") {
+    if starts_with(line, &SIGNED_OFF) {
         return true;
     }
-    starts_with(line, b"(cherry picked from commit ")
+    starts_with(line, &CHERRY_PICKED)
 }
 
 // What one more line above, which is not blank, adds.
@@ -52,7 +57,7 @@ fn scan_line(mut scan: Scan, line: &[u8]) -> Scan
     }
     if let TrailerLine::At {
         token_end: _,
-        separator: _,
+        value_start: _,
     } = parse_trailer_line(line) {
         scan.trailer_lines += 1;
         scan.possible_continuation_lines = 0;

@@ -1,18 +1,18 @@
 // The port's answers about an input, each held to what the list has at a place. The input is taken as a message, as a
 // body and as a token. Each function answers the place behind the answer, if the two agree.
 ghost use Prim.Native.Nat.{_≤_};
+use body::find_trailer;
+use body::is_acked_by;
+use body::is_assisted_by;
+use body::is_attribution;
+use body::is_co_authored_by;
+use body::is_reviewed_by;
+use body::is_signed_off_by;
+use body::is_tested_by;
+use body::next_block;
+use body::next_trailer_of;
+use body::trailer_block_start;
 use libc::STDOUT_FILENO;
-use message::body::find_trailer;
-use message::body::is_acked_by;
-use message::body::is_assisted_by;
-use message::body::is_attribution;
-use message::body::is_co_authored_by;
-use message::body::is_reviewed_by;
-use message::body::is_signed_off_by;
-use message::body::is_tested_by;
-use message::body::next_block;
-use message::body::next_trailer_of;
-use message::body::trailer_block_start;
 use message::decode::message_title_and_body;
 use message::message_summary;
 use message::message_trailers;

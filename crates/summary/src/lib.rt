@@ -5,7 +5,7 @@ ghost use mathlib.Core.List.{[], _++_};
 ghost use mathlib.Core.Path.{_≡_};
 ghost use Prim.Native.Nat.{_+_, _-_, _≤_};
 ghost use lib.ListN.{length, take, drop};
-ghost use Rattle.rules.specs.Answers.{afterwards, valueFoundSays, writtenAnswer};
+ghost use Rattle.rules.specs.Record.{fitted, writtenFound};
 ghost use Rattle.rules.specs.Summary.{dropBlanks, folded, pieces, spaced, many};
 ghost use Rattle.summary.specs.Put.{put};
 ghost use Rattle.summary.specs.Spaces.{spaceForLF, withSpaces};
@@ -152,8 +152,8 @@ fn write_summary(message: &[u8], out: &mut [u8], n: usize)
 
 // The summary of a message that is trimmed and has an LF left: written to the front of `out`, where there is room.
 pub fn summarise(message: &[u8], out: &mut [u8]) -> ValueFound
-    ensures { λ r. ⌜ valueFoundSays r ≡ writtenAnswer (spaced (pieces (now (message .entry)))) (length (now (out .entry))) ⌝ }
-    ensures { λ _. ⌜ now (out .exit) ≡ afterwards [] true (spaced (pieces (now (message .entry)))) (now (out .entry)) ⌝ }
+    ensures { λ r. ⌜ r ≡ writtenFound (spaced (pieces (now (message .entry)))) (length (now (out .entry))) ⌝ }
+    ensures { λ _. ⌜ now (out .exit) ≡ fitted (spaced (pieces (now (message .entry)))) (now (out .entry)) ⌝ }
 {
     let needed = summary_len(message);
     if out.len() < needed {

@@ -28,14 +28,14 @@ length-within s n k e q =
 
 -- the first line's answer, with the length of the trailer
 abbrev withLength : TrailerLine → ℕ → TrailerAtStart
-withLength (TrailerLine.At token separator) len = TrailerAtStart.Trailer token separator len
+withLength (TrailerLine.At token value) len = TrailerAtStart.Trailer token value len
 withLength TrailerLine.NoTrailer len = TrailerAtStart.NoTrailer
 
-either-way : (b : Bool) (token separator len : ℕ)
-    → (if b then TrailerAtStart.Trailer token separator len else TrailerAtStart.NoTrailer)
-    ≡ withLength (if b then TrailerLine.At token separator else TrailerLine.NoTrailer) len
-either-way true token separator len = refl
-either-way false token separator len = refl
+either-way : (b : Bool) (token value len : ℕ)
+    → (if b then TrailerAtStart.Trailer token value len else TrailerAtStart.NoTrailer)
+    ≡ withLength (if b then TrailerLine.At token value else TrailerLine.NoTrailer) len
+either-way true token value len = refl
+either-way false token value len = refl
 
 at-start-by : (s : List ℕ) (n : ℕ) → n ≡ firstLength (lines s)
     → atStart (lines s) ≡ withLength (parsed s) (n + length (join (run folds (lines (take (length s - n) (drop n s))))))
@@ -48,19 +48,19 @@ at-start-by (c ∷ s) n e =
     let size : length l ≡ n = sym (e ∙ ap firstLength cut) in
     let token : ℕ = length (tokenIn l) in
     rw (rest (c ∷ s) n, parsed-front (c ∷ s) l ls cut, cut, size)
-    (either-way (trailerLine l) token (token + length (gapIn l)) (n + length (join (run folds ls))))
+    (either-way (trailerLine l) token (token + length (gapIn l) + 1) (n + length (join (run folds ls))))
 
 pub no-trailer-there : (s : List ℕ) → parsed s ≡ TrailerLine.NoTrailer → atStart (lines s) ≡ TrailerAtStart.NoTrailer
 no-trailer-there s p = at-start-by s (firstLength (lines s)) refl ∙ rw p
 
-pub trailer-there : (s : List ℕ) {token separator : ℕ} (n : ℕ) → parsed s ≡ TrailerLine.At token separator → n ≡ firstLength (lines s)
-    → atStart (lines s) ≡ TrailerAtStart.Trailer token separator (n + length (join (run folds (lines (take (length s - n) (drop n s))))))
+pub trailer-there : (s : List ℕ) {token value : ℕ} (n : ℕ) → parsed s ≡ TrailerLine.At token value → n ≡ firstLength (lines s)
+    → atStart (lines s) ≡ TrailerAtStart.Trailer token value (n + length (join (run folds (lines (take (length s - n) (drop n s))))))
 trailer-there s n p e = at-start-by s n e ∙ rw p
 
 -- ---- the places lie in order, inside of what is handed on
 
 abbrev pub Within : ℕ → TrailerAtStart → Type 0
-Within n (TrailerAtStart.Trailer token separator len) = (token ≤ separator) × (separator < len) × (len ≤ n)
+Within n (TrailerAtStart.Trailer token value len) = (token < value) × (value ≤ len) × (len ≤ n)
 Within n TrailerAtStart.NoTrailer = Unit {0}
 
 colon-within : (l : Line) → T (trailerLine l) → length (tokenIn l) + length (gapIn l) < length l

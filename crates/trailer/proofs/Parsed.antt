@@ -16,7 +16,8 @@ use Rattle.rules.specs.Trailer.{named, coloned, trailerLine, tokenIn, gapIn}
 use Rattle.rules.proofs.Lines.{lines-of}
 use Rattle.trailer.specs.Line.{parsed}
 use Rattle.trailer.specs.declared.line.TrailerLine.{TrailerLine}
-use Rattle.trailer.proofs.Runs.{behind-run, first-run, run-within}
+use Rattle.rules.proofs.Lists.{run-within}
+use Rattle.trailer.proofs.Runs.{behind-run, first-run}
 
 -- ---- a line by its places
 
@@ -33,7 +34,7 @@ module _ (l : Line) (n at : ℕ) (t : n ≡ length (tokenIn l)) (e : at ≡ n + 
   pub gap-within : at ≤ length l
   gap-within = omega (arith, token-within l, run-within gapByte (drop n l), length-drop n l)
 
-  by-colon : (n ≡ 0 → ⊥) → parsed l ≡ (if first (eqb colon) (drop at l) then TrailerLine.At n at else TrailerLine.NoTrailer)
+  by-colon : (n ≡ 0 → ⊥) → parsed l ≡ (if first (eqb colon) (drop at l) then TrailerLine.At n (at + 1) else TrailerLine.NoTrailer)
   unfolding parsed trailerLine named coloned tokenIn gapIn
   by-colon some =
       let token : drop n l ≡ past tokenByte l = rw t (behind-run tokenByte l) in
@@ -50,7 +51,7 @@ module _ (l : Line) (n at : ℕ) (t : n ≡ length (tokenIn l)) (e : at ≡ n + 
       let inside : at < length l = omega (arith, gap-within) in
       by-colon some ∙ rw (drop-cons l at 0, ne-eqb colon (getD l at 0) (λ q. other (sym q)))
 
-  pub colon-there : (n ≡ 0 → ⊥) → (at ≡ length l → ⊥) → getD l at 0 ≡ colon → parsed l ≡ TrailerLine.At n at
+  pub colon-there : (n ≡ 0 → ⊥) → (at ≡ length l → ⊥) → getD l at 0 ≡ colon → parsed l ≡ TrailerLine.At n (at + 1)
   colon-there some more q =
       let inside : at < length l = omega (arith, gap-within) in
       by-colon some ∙ rw (drop-cons l at 0, eq-eqb colon (getD l at 0) (sym q))

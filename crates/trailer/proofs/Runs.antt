@@ -21,9 +21,6 @@ module _ (p : ℕ → Bool) (s : List ℕ) where
   pub run-over : (i : ℕ) → length s ≤ i → length (run p (drop i s)) ≡ 0
   run-over i h = rw (drop-of-length-le s h)
 
-  pub run-within : length (run p s) ≤ length s
-  run-within = omega (arith, simp length-append at (ap length (run-past p s)))
-
   -- what is behind the run
   pub behind-run : drop (length (run p s)) s ≡ past p s
   behind-run = ap (drop (length (run p s))) (sym (run-past p s)) ∙ drop-append-seam (run p s) (past p s)

@@ -9,7 +9,9 @@ use lib.ListN.{length, take, drop, length-append, length-drop}
 use lib.Seq.{length-take-le}
 use Rattle.rules.specs.Lines.{Line, folds, lines}
 use Rattle.rules.specs.Lists.{join, run}
-use Rattle.rules.specs.Trailer.{Trailer, trailer, trailerLine, tokenIn, gapIn, placeOf, endOf, tokenOf, rawValueAt, walk, walkFrom}
+use Rattle.rules.specs.Record.{placesOf}
+use Rattle.rules.specs.Trailer.{Trailer, trailerLine, tokenIn, gapIn, walk, walkFrom}
+use Rattle.rules.specs.declared.Places.{Places}
 use Rattle.rules.proofs.Walk.{walk-ends}
 use Rattle.text.specs.Lines.{firstLength}
 use Rattle.rules.proofs.Parts.{rest}
@@ -20,9 +22,12 @@ use Rattle.trailer.specs.declared.walk.NextTrailer.{NextTrailer}
 use Rattle.trailer.proofs.AtStart.{start-within}
 use Rattle.text.proofs.ByLines.{line-then, line-length}
 
+abbrev placesFrom : ℕ → ℕ → ℕ → ℕ → Places
+placesFrom at token value len = record { start = at; «token_end» = at + token; «value_start» = at + value; end = at + len }
+
 -- a trailer at `at`, by its places counted from its start; another answer where none is there
 abbrev nextAt : ℕ → TrailerAtStart → NextTrailer → NextTrailer
-nextAt at (TrailerAtStart.Trailer token separator len) other = NextTrailer.Trailer at (at + token) (at + separator) (at + len)
+nextAt at (TrailerAtStart.Trailer token value len) other = NextTrailer.Trailer (placesFrom at token value len)
 nextAt at TrailerAtStart.NoTrailer other = other
 
 next-by : (at : ℕ) (l : Line) (ls : List Line) → nextOf (walk at (l ∷ ls)) ≡ nextAt at (atStart (l ∷ ls)) (nextOf (walk (at + length l) ls))
@@ -31,8 +36,8 @@ next-by at l ls = by (trailerLine l) refl
   where
     by : (b : Bool) → trailerLine l ≡ b → nextOf (walk at (l ∷ ls)) ≡ nextAt at (atStart (l ∷ ls)) (nextOf (walk (at + length l) ls))
     by true q =
-        let colon-at : at + length (tokenIn l) + length (gapIn l) + 1 - 1 ≡ at + (length (tokenIn l) + length (gapIn l)) = omega arith in
-        rw (q, colon-at, length-append l (join (run folds ls)))
+        let value-at : at + length (tokenIn l) + length (gapIn l) + 1 ≡ at + (length (tokenIn l) + length (gapIn l) + 1) = omega arith in
+        rw (q, value-at, length-append l (join (run folds ls)))
     by false q = rw q
 
 -- ---- in a body, by what is handed on from `at`
@@ -49,11 +54,11 @@ module _ (body : List ℕ) (at : ℕ) (h : at < length body) where
       → n ≡ firstLength (lines (take (length body - at) (drop at body))) → nextOf (walkFrom body at) ≡ nextOf (walkFrom body (at + n))
   next-skips n q e = next-there n e ∙ rw q
 
-  module _ {token separator len : ℕ} (q : atStart (lines (take (length body - at) (drop at body))) ≡ TrailerAtStart.Trailer token separator len) where
-    pub next-found : nextOf (walkFrom body at) ≡ NextTrailer.Trailer at (at + token) (at + separator) (at + len)
+  module _ {token value len : ℕ} (q : atStart (lines (take (length body - at) (drop at body))) ≡ TrailerAtStart.Trailer token value len) where
+    pub next-found : nextOf (walkFrom body at) ≡ NextTrailer.Trailer (placesFrom at token value len)
     next-found = next-there (firstLength (lines (take (length body - at) (drop at body)))) refl ∙ rw q
 
-    pub found-within : (token ≤ separator) × (separator < len) × (at + len ≤ length body)
+    pub found-within : (token < value) × (value ≤ len) × (at + len ≤ length body)
     found-within =
         let (x, y, z) = rw q at (start-within (take (length body - at) (drop at body))) in
         (x, y, omega (arith, z, length-take-le (length body - at) (drop at body) (omega (arith, length-drop at body))))
@@ -63,30 +68,15 @@ next-ends body at h = rw (walk-ends body at h)
 
 -- ---- what a caller learns
 
-pub record First (ts : List Trailer) (start token separator end : ℕ) : Type 0 where
+pub record First (ts : List Trailer) (at : Places) : Type 0 where
   pub found : Trailer
   pub later : List Trailer
   pub walked : ts ≡ found ∷ later
-  pub starts : start ≡ placeOf found
-  pub token-ends : token ≡ placeOf found + length (tokenOf found)
-  pub value-at : separator + 1 ≡ rawValueAt found
-  pub ends : end ≡ endOf found
+  pub places : at ≡ placesOf found
 
-behind-colon : (t : Trailer) (separator : ℕ) → separator ≡ rawValueAt t - 1 → separator + 1 ≡ rawValueAt t
-behind-colon (trailer at l js) separator e = omega arith
-
-pub first-is : (ts : List Trailer) {start token separator end : ℕ} → nextOf ts ≡ NextTrailer.Trailer start token separator end
-    → First ts start token separator end
+pub first-is : (ts : List Trailer) {at : Places} → nextOf ts ≡ NextTrailer.Trailer at → First ts at
 first-is [] e = let z : _≡_ {A = ℕ} 0 1 = cc in absurd (omega arith)
-first-is (t ∷ ts) {separator = separator} e = record {
-  found = t;
-  later = ts;
-  walked = refl;
-  starts = cc;
-  token-ends = cc;
-  value-at = behind-colon t separator (cc);
-  ends = cc;
-}
+first-is (t ∷ ts) e = record { found = t; later = ts; walked = refl; places = cc }
 
 pub none-is : (ts : List Trailer) → nextOf ts ≡ NextTrailer.End → ts ≡ []
 none-is [] e = refl

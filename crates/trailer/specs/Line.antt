@@ -8,14 +8,14 @@ use Rattle.rules.specs.Trailer.{trailerLine, tokenIn, gapIn}
 use Rattle.trailer.specs.declared.line.TrailerAtStart.{TrailerAtStart}
 use Rattle.trailer.specs.declared.line.TrailerLine.{TrailerLine}
 
--- where the token ends, and where the colon stands
+-- where the token ends, and where the value starts, right behind the colon
 unfoldable pub parsed : Line → TrailerLine
-parsed l = if trailerLine l then TrailerLine.At (length (tokenIn l)) (length (tokenIn l) + length (gapIn l)) else TrailerLine.NoTrailer
+parsed l = if trailerLine l then TrailerLine.At (length (tokenIn l)) (length (tokenIn l) + length (gapIn l) + 1) else TrailerLine.NoTrailer
 
 -- "A trailer is such a line with every indented, non-blank line directly after it": the same, and the trailer's length
 unfoldable pub atStart : List Line → TrailerAtStart
 atStart [] = TrailerAtStart.NoTrailer
 atStart (l ∷ ls) =
     if trailerLine l
-    then TrailerAtStart.Trailer (length (tokenIn l)) (length (tokenIn l) + length (gapIn l)) (length l + length (join (run folds ls)))
+    then TrailerAtStart.Trailer (length (tokenIn l)) (length (tokenIn l) + length (gapIn l) + 1) (length l + length (join (run folds ls)))
     else TrailerAtStart.NoTrailer

@@ -11,9 +11,12 @@ use text::line::is_blank_line;
 use text::line::is_indented;
 use text::line::line_len;
 
-// Of `parse_trailer_line`: where the token ends and where the colon stands.
+// Of `parse_trailer_line`: where the token ends, and where the value starts, right behind the colon.
 pub enum TrailerLine {
-    At { token_end: usize, separator: usize },
+    At {
+        token_end: usize,
+        value_start: usize,
+    },
     NoTrailer,
 }
 
@@ -21,7 +24,7 @@ pub enum TrailerLine {
 pub enum TrailerAtStart {
     Trailer {
         token_end: usize,
-        separator: usize,
+        value_start: usize,
         len: usize,
     },
     NoTrailer,
@@ -86,7 +89,7 @@ fn find_separator(line: &[u8], at: usize) -> usize
     i
 }
 
-// The token's end and the colon's place of a trailer line.
+// Where the token of a trailer line ends, and where its value starts.
 pub fn parse_trailer_line(line: &[u8]) -> TrailerLine
     ensures { λ r. ⌜ r ≡ parsed (now (line .entry)) ⌝ }
 {
@@ -101,9 +104,10 @@ pub fn parse_trailer_line(line: &[u8]) -> TrailerLine
     if line[separator] != b':' {
         return TrailerLine::NoTrailer;
     }
+    let value_start = separator + 1;
     TrailerLine::At {
         token_end,
-        separator,
+        value_start,
     }
 }
 
@@ -128,7 +132,7 @@ pub fn trailer_at_start(cursor: &[u8]) -> TrailerAtStart
 {
     let TrailerLine::At {
         token_end,
-        separator,
+        value_start,
     } = parse_trailer_line(cursor)
     else {
         return TrailerAtStart::NoTrailer;
@@ -137,7 +141,7 @@ pub fn trailer_at_start(cursor: &[u8]) -> TrailerAtStart
     let len = first + folds_len(&cursor[first..]);
     TrailerAtStart::Trailer {
         token_end,
-        separator,
+        value_start,
         len,
     }
 }

@@ -6,16 +6,12 @@ ghost use Rattle.rules.specs.Trailer.{walkFrom};
 ghost use Rattle.trailer.specs.Walk.{nextOf};
 use crate::line::TrailerAtStart;
 use crate::line::trailer_at_start;
+use rules::Places;
 use text::line::line_len;
 
-// Of `next_trailer_from`: where the trailer starts, where its token ends, where its colon stands, and where it ends.
+// Of `next_trailer_from`: where the trailer stands.
 pub enum NextTrailer {
-    Trailer {
-        start: usize,
-        token_end: usize,
-        separator: usize,
-        end: usize,
-    },
+    Trailer(Places),
     End,
 }
 
@@ -28,15 +24,15 @@ pub fn next_trailer_from(body: &[u8], at: usize) -> NextTrailer
     while start < body.len() {
         if let TrailerAtStart::Trailer {
             token_end,
-            separator,
+            value_start,
             len,
         } = trailer_at_start(&body[start..]) {
-            return NextTrailer::Trailer {
+            return NextTrailer::Trailer(Places {
                 start,
                 token_end: start + token_end,
-                separator: start + separator,
+                value_start: start + value_start,
                 end: start + len,
-            };
+            });
         }
         start += line_len(&body[start..]);
     }

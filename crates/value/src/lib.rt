@@ -1,14 +1,13 @@
 // A trailer's value: the original's `unfold_value`, with its length found before it is written, and the value's place.
-ghost use mathlib.Core.Bool.{true};
 ghost use mathlib.Core.List.{[], _∷_, _++_};
 ghost use mathlib.Core.Path.{_≡_};
 ghost use Prim.Native.Nat.{_+_, _-_, _≤_, _<_, _^_};
 ghost use lib.ListN.{length, take, drop};
-ghost use Rattle.rules.specs.Answers.{afterwards, valueFoundSays, writtenAnswer};
+ghost use Rattle.rules.specs.Record.{fitted, writtenFound, writtenOf};
 ghost use Rattle.rules.specs.Trailer.{bySpaces, unfolded, valueIsWritten};
 ghost use Rattle.rules.specs.White.{trim};
 ghost use Rattle.value.specs.Joined.{joinedLength};
-ghost use Rattle.value.specs.Value.{valueAnswer, valueBuffer};
+ghost use Rattle.value.specs.Value.{valueFound};
 use copy::copy_at;
 use rules::Part;
 use rules::Refusal;
@@ -103,8 +102,8 @@ fn unfold_into(value: &[u8], out: &mut [u8]) -> usize
 // The unfolded value, written to the front of `out`, where it fits.
 fn unfold_fitting(value: &[u8], out: &mut [u8]) -> ValueFound
     requires { ⌜ length (unfolded (now value)) ≤ length (now out) ⌝ }
-    ensures { λ r. ⌜ valueFoundSays r ≡ writtenAnswer (unfolded (now (value .entry))) (length (now (out .entry))) ⌝ }
-    ensures { λ _. ⌜ now (out .exit) ≡ afterwards [] true (unfolded (now (value .entry))) (now (out .entry)) ⌝ }
+    ensures { λ r. ⌜ r ≡ writtenFound (unfolded (now (value .entry))) (length (now (out .entry))) ⌝ }
+    ensures { λ _. ⌜ now (out .exit) ≡ fitted (unfolded (now (value .entry))) (now (out .entry)) ⌝ }
 {
     let end = unfold_into(value, out);
     ValueFound::At(Value::InBuffer(Part { start: 0, end }))
@@ -113,8 +112,8 @@ fn unfold_fitting(value: &[u8], out: &mut [u8]) -> ValueFound
 // The unfolded value of a raw value that has several lines: written to the front of `out`, where there is room. It is never longer
 // than the raw value, so its length is found only where that does not fit.
 fn unfold_value(value: &[u8], out: &mut [u8]) -> ValueFound
-    ensures { λ r. ⌜ valueFoundSays r ≡ writtenAnswer (unfolded (now (value .entry))) (length (now (out .entry))) ⌝ }
-    ensures { λ _. ⌜ now (out .exit) ≡ afterwards [] true (unfolded (now (value .entry))) (now (out .entry)) ⌝ }
+    ensures { λ r. ⌜ r ≡ writtenFound (unfolded (now (value .entry))) (length (now (out .entry))) ⌝ }
+    ensures { λ _. ⌜ now (out .exit) ≡ fitted (unfolded (now (value .entry))) (now (out .entry)) ⌝ }
 {
     if value.len() <= out.len() {
         return unfold_fitting(value, out);
@@ -129,8 +128,8 @@ fn unfold_value(value: &[u8], out: &mut [u8]) -> ValueFound
 // The value of the raw value from `from` up to `to`: a part of the body, or, unfolded, the front of `out`.
 pub fn read_value(body: &[u8], from: usize, to: usize, out: &mut [u8]) -> ValueFound
     requires { ⌜ (from ≤ to) × (to ≤ length (now body)) ⌝ }
-    ensures { λ r. ⌜ valueFoundSays r ≡ valueAnswer from (take (to - from) (drop from (now (body .entry)))) (length (now (out .entry))) ⌝ }
-    ensures { λ _. ⌜ now (out .exit) ≡ valueBuffer (take (to - from) (drop from (now (body .entry)))) (now (out .entry)) ⌝ }
+    ensures { λ r. ⌜ r ≡ valueFound from (take (to - from) (drop from (now (body .entry)))) (length (now (out .entry))) ⌝ }
+    ensures { λ _. ⌜ now (out .exit) ≡ fitted (writtenOf (take (to - from) (drop from (now (body .entry))))) (now (out .entry)) ⌝ }
 {
     let raw = &body[from..to];
     if is_folded(raw) {

@@ -4,7 +4,7 @@
 //! two that are lent at once overlap where one of them is written to.
 
 /// How many entries a result must have.
-pub const RESULT_LEN: usize = 7;
+pub const RESULT_LEN: usize = 16;
 
 /// The codes.
 pub const OK: u32 = 0;

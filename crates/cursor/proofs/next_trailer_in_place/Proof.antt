@@ -48,7 +48,7 @@ use denote.Triple.Table.{entered, cited}
 use denote.Triple.Walked.{says, Stays, stay-ref, stay-none-slice, gave-slice, goes-ref, goes-none-slice, goes-gave-slice}
 use denote.Triple.Walked.{walkOf, Walks, ends-at, walked, walk-meets}
 use denote.Exit.{yes}
-use Rattle.message.specs.Body.{stepAnswer, stepBuffer}
+use Rattle.body.specs.Body.{stepAnswer, stepBuffer}
 use Rattle.rules.specs.Answers.{trailerStepSays}
 use Rattle.rules.specs.declared.Cursor.{Cursor}
 use Rattle.rules.specs.declared.Kind.{Kind}

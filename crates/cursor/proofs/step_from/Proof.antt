@@ -1,67 +1,54 @@
-use mathlib.Core.List.{[]}
-use lib.ListN.{length}
-use Rattle.rules.specs.Answers.{trailerSays}
-use Rattle.cursor.proofs.Moved.{moves, stays}
+-- `cursor::step_from` meets its contract: the cursor stands where the answer says, or stays. Assumes nothing.
+use mathlib.Core.Path.{_≡_, sym, ap, _∙_}
 use borrow.Author.Needs.{needs}
+use lib.ListN.{length}
+use Rattle.cursor.specs.InPlace.{cursorLeft}
+use Rattle.cursor.proofs.Moved.{moved, nextAt}
 use Rattle.cursor.proofs.step_from.Statement.{statement}
 use Rattle.cursor.proofs.step_from.Tie as tie
-use Rattle.cursor.proofs.step_from.Reads as reads
-use Rattle.cursor.proofs.step_from.Lts as lts
-use Rattle.message.proofs.body.next_trailer.Reads as next-trailer-reads
 
--- src/lib.rt:24:9
 next-trailer-requires : tie.Need-next-trailer-requires
 next-trailer-requires c κs = search needs
 
--- src/lib.rt:26:32
 enum-known-step : tie.Need-enum-known-step
 enum-known-step c = search needs
 
--- src/lib.rt:27:26
 enum-known-step-2 : tie.Need-enum-known-step-2
 enum-known-step-2 c = search needs
 
--- src/lib.rt:28:36
 enum-told : tie.Need-enum-told
 enum-told c = search needs
 
--- src/lib.rt:19:1
+-- where the step leaves the cursor
+left : (n : tie.After-next-trailer) → let a = n .before .before .before .before .args in
+    nextAt (a .at) (n .next-trailer .result) ≡ cursorLeft (a .body .now) (a .at) (length (a .out .now))
+left n = let a = n .before .before .before .before .args in moved (a .body .now) (a .at) (length (a .out .now)) (n .next-trailer .result) (n .next-trailer .ensures .0)
+
 same-length : tie.Need-same-length
 same-length c = search needs
 
--- src/lib.rt:19:1
 returns : tie.Need-returns
 returns c =
-    let a = c .before .before .before .before .before .before .before .before .before .args in
-    let e = c .before .before .before .before .before .next-trailer .ensures in
-    let g = c .before .step .given in
-    let q = rw (g .1) at (e .0) in
-    (q, (moves (a .body .now) (a .at) (length (a .out .now)) (trailerSays (g .0 .0)) (g .0 .1 .0 .at) q, e .1))
+    let n = c .before .before .before .before .before in
+    let g = c .before .step .given .1 in
+    (rw g at (n .next-trailer .ensures .0), (ap (nextAt _) (sym g) ∙ left n, n .next-trailer .ensures .1))
 
--- src/lib.rt:19:1
 same-length-2 : tie.Need-same-length-2
 same-length-2 c = search needs
 
--- src/lib.rt:19:1
 returns-2 : tie.Need-returns-2
 returns-2 c =
-    let a = c .before .before .before .before .before .before .before .before .before .args in
-    let e = c .before .before .before .before .before .next-trailer .ensures in
-    let g = c .before .step2 .given in
-    let q = rw (g .1) at (e .0) in
-    (q, (moves (a .body .now) (a .at) (length (a .out .now)) [] (g .0 .0 .at) q, e .1))
+    let n = c .before .before .before .before .before in
+    let g = c .before .step2 .given .1 in
+    (rw g at (n .next-trailer .ensures .0), (ap (nextAt _) (sym g) ∙ left n, n .next-trailer .ensures .1))
 
--- src/lib.rt:19:1
 same-length-3 : tie.Need-same-length-3
 same-length-3 c = search needs
 
--- src/lib.rt:19:1
 returns-3 : tie.Need-returns-3
 returns-3 c =
-    let a = c .before .before .before .before .before .before .before .before .args in
-    let e = c .before .before .before .before .next-trailer .ensures in
-    let g = c .enum-told .given in
-    (e .0, (stays (a .body .now) (a .at) (length (a .out .now)) (g .0 .0) (rw (g .1) at (e .0)), e .1))
+    let n = c .before .before .before .before in
+    (n .next-trailer .ensures .0, (ap (nextAt _) (sym (c .enum-told .given .1)) ∙ left n, n .next-trailer .ensures .1))
 
 pub step-from-spec : {M : Type 1} → statement M
 step-from-spec =

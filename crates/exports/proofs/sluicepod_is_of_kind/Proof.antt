@@ -1,17 +1,15 @@
 -- `exports::sluicepod_is_of_kind` meets its contract. Assumes nothing.
 use mathlib.Core.Path.{sym, ap, _∙_}
-use borrow.Author.Tests.{lt-ltb}
 use borrow.Author.Needs.{needs}
-use Rattle.exports.specs.ByKind.{questionOf}
+use borrow.Author.Tests.{lt-ltb}
+use Rattle.numbers.proofs.Crossing.{crosses}
 use Rattle.numbers.specs.declared.Asked.{Asked}
-use Rattle.numbers.proofs.Crossing.{code-crosses, result-crosses}
+use Rattle.exports.specs.ByKind.{questionOf}
 use Rattle.exports.proofs.sluicepod_is_of_kind.Statement.{statement}
 use Rattle.exports.proofs.sluicepod_is_of_kind.Tie as tie
 
 returns : tie.Need-returns
-returns c =
-    let k = lt-ltb _ _ (c .if1 .taken) in
-    (rw k, rw k)
+returns c = let k = lt-ltb _ _ (c .if1 .taken) in (rw k, rw k)
 
 kind-of-requires : tie.Need-kind-of-requires
 kind-of-requires c κs = search needs
@@ -22,8 +20,8 @@ enum-known-kind c = search needs
 enum-told : tie.Need-enum-told
 enum-told c = search needs
 
-said-requires : tie.Need-said-requires
-said-requires c κs = search needs
+slice-aggregate-put : tie.Need-slice-aggregate-put
+slice-aggregate-put c = search needs
 
 put-requires : tie.Need-put-requires
 put-requires c κs = search needs
@@ -33,31 +31,35 @@ same-length c = search needs
 
 returns-2 : tie.Need-returns-2
 returns-2 c =
-    let a = c .before .before .before .before .before .before .before .before .before .before .before .args in
-    let asked = sym (c .before .before .before .before .before .enum-told .given .1) ∙ c .before .before .before .before .before .before .before .kind-of .ensures in
-    let e = c .before .before .before .before .said .ensures .0 ∙ ap (λ (k : Asked). questionOf k (a .input .now) (a .start) (a .end)) asked in
-    let p = c .before .before .put .ensures in
-    (code-crosses (a .result .now) e (p .0), result-crosses (a .result .now) e (p .1))
+    let p = c .before .before in
+    let t = p .before .before .before in
+    let n = t .before .before in
+    let i = n .before in
+    let k = i .before .before in
+    let a = k .before .args in
+    let none = sym (t .enum-told .given .1) ∙ n .kind-of .ensures in
+    crosses (a .result .now) (ap (λ (k : Asked). questionOf k (a .input .now) (a .start) (a .end)) none) (p .put .ensures)
 
-ask-requires : tie.Need-ask-requires
-ask-requires c κs = search needs
+is-of-kind-requires : tie.Need-is-of-kind-requires
+is-of-kind-requires c κs = search needs
 
-question-numbers-requires : tie.Need-question-numbers-requires
-question-numbers-requires c κs = search needs
-
-put-requires-2 : tie.Need-put-requires-2
-put-requires-2 c κs = search needs
+put-yes-no-requires : tie.Need-put-yes-no-requires
+put-yes-no-requires c κs = search needs
 
 same-length-2 : tie.Need-same-length-2
 same-length-2 c = search needs
 
 returns-3 : tie.Need-returns-3
 returns-3 c =
-    let a = c .before .before .before .before .before .before .before .before .before .before .before .before .before .args in
-    let asked = sym (c .before .before .before .before .before .before .before .kind .given .1) ∙ c .before .before .before .before .before .before .before .before .before .kind-of .ensures in
-    let e = c .before .before .before .before .question-numbers .ensures .0 ∙ c .before .before .before .before .before .ask .ensures ∙ ap (λ (k : Asked). questionOf k (a .input .now) (a .start) (a .end)) asked in
-    let p = c .before .before .put2 .ensures in
-    (code-crosses (a .result .now) e (p .0), result-crosses (a .result .now) e (p .1))
+    let p = c .before .before in
+    let s = p .before .before in
+    let g = s .before .before in
+    let n = g .before .before in
+    let i = n .before in
+    let k = i .before .before in
+    let a = k .before .args in
+    let asked = sym (g .kind .given .1) ∙ n .kind-of .ensures in
+    crosses (a .result .now) (s .is-of-kind .ensures ∙ ap (λ (k : Asked). questionOf k (a .input .now) (a .start) (a .end)) asked) (p .put-yes-no .ensures)
 
 pub sluicepod-is-of-kind-spec : {M : Type 1} → statement M
 sluicepod-is-of-kind-spec =
@@ -67,12 +69,11 @@ sluicepod-is-of-kind-spec =
     kind-of-requires
     enum-known-kind
     enum-told
-    said-requires
+    slice-aggregate-put
     put-requires
     same-length
     returns-2
-    ask-requires
-    question-numbers-requires
-    put-requires-2
+    is-of-kind-requires
+    put-yes-no-requires
     same-length-2
     returns-3)

@@ -1,42 +1,30 @@
 -- `exports::sluicepod_message_trailers` meets its contract. Assumes nothing.
-use mathlib.Core.Path.{_∙_}
-use borrow.Author.Tests.{lt-ltb}
 use borrow.Author.Needs.{needs}
-use Rattle.numbers.proofs.Crossing.{code-crosses, result-crosses}
+use borrow.Author.Tests.{lt-ltb}
+use Rattle.numbers.proofs.Crossing.{crosses}
 use Rattle.exports.proofs.sluicepod_message_trailers.Statement.{statement}
 use Rattle.exports.proofs.sluicepod_message_trailers.Tie as tie
 
 returns : tie.Need-returns
-returns c =
-    let k = lt-ltb _ _ (c .if1 .taken) in
-    (rw k, rw k)
+returns c = let k = lt-ltb _ _ (c .if1 .taken) in (rw k, rw k)
 
 message-trailers-requires : tie.Need-message-trailers-requires
 message-trailers-requires c κs = search needs
 
-walk-numbers-requires : tie.Need-walk-numbers-requires
-walk-numbers-requires c κs = search needs
-
-put-requires : tie.Need-put-requires
-put-requires c κs = search needs
+put-walk-requires : tie.Need-put-walk-requires
+put-walk-requires c κs = search needs
 
 same-length : tie.Need-same-length
 same-length c = search needs
 
 returns-2 : tie.Need-returns-2
 returns-2 c =
-    let result = c .before .before .before .before .before .before .before .before .before .args .result .now in
-    let e = c .before .before .before .before .walk-numbers .ensures .0 ∙ c .before .before .before .before .before .message-trailers .ensures in
-    let p = c .before .before .put .ensures in
-    (code-crosses result e (p .0), result-crosses result e (p .1))
+    let p = c .before .before in
+    let s = p .before .before in
+    let i = s .before in
+    let a = i .before .before .before .args in
+    crosses (a .result .now) (s .message-trailers .ensures) (p .put-walk .ensures)
 
 pub sluicepod-message-trailers-spec : {M : Type 1} → statement M
 sluicepod-message-trailers-spec =
-    tie.close
-    (tie.spec
-    returns
-    message-trailers-requires
-    walk-numbers-requires
-    put-requires
-    same-length
-    returns-2)
+    tie.close (tie.spec returns message-trailers-requires put-walk-requires same-length returns-2)

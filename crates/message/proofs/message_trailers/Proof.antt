@@ -16,10 +16,10 @@ use Rattle.message.proofs.message_trailers.Statement.{statement}
 use Rattle.message.proofs.message_trailers.Tie as tie
 
 -- the body's start and the block's start in the body
-walk-at : (m : List ℕ) (s k : ℕ) → s ≡ bodyStart m → k ≡ blockStart (take (length m - s) (drop s m)) → s + k ≡ walkStart m
+walk-at : (m : List ℕ) (s k : ℕ) → s ≡ bodyStart m → k ≡ blockStart (take (length m - s) (drop s m)) → s + k ≡ walkStart m .at
 walk-at m s k p q = rw (q, rest m s, p)
 
-walk-fits : (m : List ℕ) → walkStart m ≤ length m
+walk-fits : (m : List ℕ) → walkStart m .at ≤ length m
 walk-fits m = omega (arith, body-fits m, start-within (body m), length-drop (bodyStart m) m)
 
 returns : tie.Need-returns
@@ -46,7 +46,7 @@ trailer-block-start-requires c κs = search needs
 
 -- the walk starts at the block start of the body
 walks : (b : tie.After-trailer-block-start) → let t = b .before .before in
-    t .title-and-body .result .«body_start» + b .trailer-block-start .result ≡ walkStart (t .before .before .before .args .message .now)
+    t .title-and-body .result .«body_start» + b .trailer-block-start .result ≡ walkStart (t .before .before .before .args .message .now) .at
 walks b =
     let t = b .before .before in
     walk-at (t .before .before .before .args .message .now) _ _ (t .title-and-body .ensures .1) (b .trailer-block-start .ensures)

@@ -1,13 +1,13 @@
 -- `message::summary` meets its contract: the part that `trim` answers is read as it is, or folded. Assumes nothing.
-use mathlib.Core.Path.{sym, _∙_}
+use mathlib.Core.Path.{sym, ap, _∙_}
 use native.Mathlib.Omega.{arith}
 use borrow.Author.Needs.{needs}
 use borrow.Author.Tests.{lt-ltb, le-ltb}
 use lib.ListN.{length}
 use Rattle.rules.proofs.White.{trim-fits}
-use Rattle.rules.specs.Answers.{limit}
+use Rattle.rules.specs.Answers.{limit, valueFoundSays}
 use Rattle.rules.proofs.Parts.{kept-part}
-use Rattle.message.proofs.Calls.{summary-folded, summary-left, summary-part, summary-keeps}
+use Rattle.message.proofs.Summarised.{summary-folded, summary-left, summary-part, summary-keeps}
 use Rattle.message.proofs.summary.Statement.{statement}
 use Rattle.message.proofs.summary.Tie as tie
 
@@ -42,7 +42,7 @@ returns-2 c =
     let short = le-ltb limit _ (c .before .before .before .before .before .before .before .before .if1 .left) in
     let kept = kept-part title (c .before .before .before .before .before .before .before .trim .ensures) in
     let q = sym (c .before .before .before .before .before .is-written .ensures) ∙ c .before .before .before .before .if2 .taken in (
-      c .before .before .summarise .ensures .0 ∙ summary-folded title short kept q (length out),
+      ap valueFoundSays (c .before .before .summarise .ensures .0) ∙ summary-folded title short kept q (length out),
       c .before .before .summarise .ensures .1 ∙ summary-left title short kept q out,
     )
 

@@ -33,6 +33,12 @@ returns-3 c =
     let g = c .before .before .before .find-separator in
     sym (other-there _ _ _ (t .ensures) (g .ensures) (c .before .before .before .before .if1 .left) (c .before .before .if2 .left) (c .if3 .taken))
 
+add-value-start : tie.Need-add-value-start
+add-value-start c =
+    let t = c .before .before .before .before .before .token-end in
+    let g = c .before .before .before .find-separator in
+    omega (arith, gap-within _ _ _ (t .ensures) (g .ensures))
+
 returns-4 : tie.Need-returns-4
 returns-4 c =
     let t = c .before .before .before .before .before .token-end in
@@ -49,4 +55,5 @@ parse-trailer-line-spec =
     returns-2
     shared-slice-read-if3
     returns-3
+    add-value-start
     returns-4)

@@ -48,7 +48,7 @@ found c = sym (c .before .before .before .trailer-at-start .ensures) ∙ c .befo
 
 places : (c : tie.After-known-told Inv-loop μ-loop) → let l = c .before .before .before .before .before .before in
     let t = c .before .token-end .given .0 in
-    (t .0 ≤ t .1 .0) × (t .1 .0 < t .1 .1 .0) × (l .loop .start + t .1 .1 .0 ≤ length (l .before .before .args .body .now))
+    (t .0 < t .1 .0) × (t .1 .0 ≤ t .1 .1 .0) × (l .loop .start + t .1 .1 .0 ≤ length (l .before .before .args .body .now))
 places c =
     let l = c .before .before .before .before .before .before in
     found-within (l .before .before .args .body .now) (l .loop .start) (omega arith) (found c)

@@ -1,0 +1,2 @@
+-- What a call's parts answer, as document 01 says it.
+pub mod Calls

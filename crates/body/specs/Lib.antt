@@ -1,0 +1,2 @@
+-- The statements of the calls on a body: the original's body.rs.
+pub mod Body

@@ -1,0 +1,192 @@
+// The calls on a body: trailers, blocks, attribution. The original's body.rs.
+ghost use mathlib.Core.Path.{_≡_};
+ghost use lib.ListN.{length};
+ghost use Rattle.rules.specs.Answers.{blockStepSays, startSays, trailerFoundSays, trailerStepSays, yesNoSays};
+ghost use Rattle.rules.specs.declared.Kind.{Kind};
+ghost use Rattle.body.specs.Body.{blockAnswer, findAnswer, findBuffer, questionAnswer, startAnswer, stepAnswer, stepBuffer};
+use block::NextBlock;
+use block::next_block_from;
+use filter::find_named;
+use filter::next_of;
+use record::TrailerRead;
+use record::read_trailer;
+use rules::BlockCursor;
+use rules::BlockStep;
+use rules::Cursor;
+use rules::Kind;
+use rules::LIMIT;
+use rules::Part;
+use rules::Refusal;
+use rules::StartFound;
+use rules::TrailerFound;
+use rules::TrailerStep;
+use rules::YesNo;
+use trailer::walk::NextTrailer;
+
+// Where the trailer block of `body` starts; the body's length where it has none.
+pub fn trailer_block_start(body: &[u8]) -> StartFound
+    ensures { λ r. ⌜ startSays r ≡ startAnswer (now (body .entry)) ⌝ }
+{
+    if body.len() > LIMIT {
+        return StartFound::Refused(Refusal::TooLong);
+    }
+    StartFound::At(paragraph::trailer_block_start(body))
+}
+
+// The next trailer from the cursor on whose token is of the kind; the others are passed over, and write nothing.
+pub fn next_trailer_of(body: &[u8], cursor: Cursor, kind: Kind, out: &mut [u8]) -> TrailerStep
+    ensures { λ r. ⌜ trailerStepSays r ≡ stepAnswer kind (now (body .entry)) (cursor .at) (length (now (out .entry))) ⌝ }
+    ensures { λ _. ⌜ now (out .exit) ≡ stepBuffer kind (now (body .entry)) (cursor .at) (now (out .entry)) ⌝ }
+{
+    let at = cursor.at;
+    let len = body.len();
+    if len > LIMIT {
+        return TrailerStep::Refused(Refusal::TooLong);
+    }
+    if len < at {
+        return TrailerStep::Refused(Refusal::BadPlace);
+    }
+    let NextTrailer::Trailer(places) = next_of(body, at, kind) else {
+        return TrailerStep::End(Cursor { at: len });
+    };
+    let read = read_trailer(body, places, out);
+    match read {
+        TrailerRead::Trailer(found) => TrailerStep::Trailer {
+            found,
+            next: Cursor { at: places.end },
+        },
+        TrailerRead::Refused(refusal) => TrailerStep::Refused(refusal),
+    }
+}
+
+// The next trailer from the cursor on.
+pub fn next_trailer(body: &[u8], cursor: Cursor, out: &mut [u8]) -> TrailerStep
+    ensures { λ r. ⌜ trailerStepSays r ≡ stepAnswer Kind.All (now (body .entry)) (cursor .at) (length (now (out .entry))) ⌝ }
+    ensures { λ _. ⌜ now (out .exit) ≡ stepBuffer Kind.All (now (body .entry)) (cursor .at) (now (out .entry)) ⌝ }
+{
+    next_trailer_of(body, cursor, Kind::All, out)
+}
+
+// The next block from the cursor on: a message, and the trailers following it.
+pub fn next_block(body: &[u8], cursor: BlockCursor) -> BlockStep
+    ensures { λ r. ⌜ blockStepSays r ≡ blockAnswer (now (body .entry)) (cursor .at) (cursor .start) ⌝ }
+{
+    let at = cursor.at;
+    let start = cursor.start;
+    let len = body.len();
+    if len > LIMIT {
+        return BlockStep::Refused(Refusal::TooLong);
+    }
+    if len < at {
+        return BlockStep::Refused(Refusal::BadPlace);
+    }
+    if len < start {
+        return BlockStep::Refused(Refusal::BadPlace);
+    }
+    let NextBlock::Block { message_end, end } = next_block_from(body, at, start) else {
+        return BlockStep::End(BlockCursor {
+            at: len,
+            start: len,
+        });
+    };
+    BlockStep::Block {
+        message_end,
+        end,
+        next: BlockCursor {
+            at: end,
+            start: end,
+        },
+    }
+}
+
+// Whether the part `token` of `input` is a token of the kind.
+pub fn is_of_kind(input: &[u8], token: Part, kind: Kind) -> YesNo
+    ensures { λ r. ⌜ yesNoSays r ≡ questionAnswer kind (now (input .entry)) (token .start) (token .end) ⌝ }
+{
+    let start = token.start;
+    let end = token.end;
+    if input.len() > LIMIT {
+        return YesNo::Refused(Refusal::TooLong);
+    }
+    if end < start {
+        return YesNo::Refused(Refusal::BadPlace);
+    }
+    if input.len() < end {
+        return YesNo::Refused(Refusal::BadPlace);
+    }
+    if filter::is_of(kind, &input[start..end]) {
+        return YesNo::Yes;
+    }
+    YesNo::No
+}
+
+// Whether a token is `Signed-off-by`, ASCII case aside.
+pub fn is_signed_off_by(input: &[u8], token: Part) -> YesNo
+    ensures { λ r. ⌜ yesNoSays r ≡ questionAnswer Kind.SignedOffBy (now (input .entry)) (token .start) (token .end) ⌝ }
+{
+    is_of_kind(input, token, Kind::SignedOffBy)
+}
+
+// Whether a token is `Co-authored-by`, ASCII case aside.
+pub fn is_co_authored_by(input: &[u8], token: Part) -> YesNo
+    ensures { λ r. ⌜ yesNoSays r ≡ questionAnswer Kind.CoAuthoredBy (now (input .entry)) (token .start) (token .end) ⌝ }
+{
+    is_of_kind(input, token, Kind::CoAuthoredBy)
+}
+
+// Whether a token is `Assisted-by`, ASCII case aside.
+pub fn is_assisted_by(input: &[u8], token: Part) -> YesNo
+    ensures { λ r. ⌜ yesNoSays r ≡ questionAnswer Kind.AssistedBy (now (input .entry)) (token .start) (token .end) ⌝ }
+{
+    is_of_kind(input, token, Kind::AssistedBy)
+}
+
+// Whether a token is `Acked-by`, ASCII case aside.
+pub fn is_acked_by(input: &[u8], token: Part) -> YesNo
+    ensures { λ r. ⌜ yesNoSays r ≡ questionAnswer Kind.AckedBy (now (input .entry)) (token .start) (token .end) ⌝ }
+{
+    is_of_kind(input, token, Kind::AckedBy)
+}
+
+// Whether a token is `Reviewed-by`, ASCII case aside.
+pub fn is_reviewed_by(input: &[u8], token: Part) -> YesNo
+    ensures { λ r. ⌜ yesNoSays r ≡ questionAnswer Kind.ReviewedBy (now (input .entry)) (token .start) (token .end) ⌝ }
+{
+    is_of_kind(input, token, Kind::ReviewedBy)
+}
+
+// Whether a token is `Tested-by`, ASCII case aside.
+pub fn is_tested_by(input: &[u8], token: Part) -> YesNo
+    ensures { λ r. ⌜ yesNoSays r ≡ questionAnswer Kind.TestedBy (now (input .entry)) (token .start) (token .end) ⌝ }
+{
+    is_of_kind(input, token, Kind::TestedBy)
+}
+
+// Whether a token is any of the six attribution tokens, ASCII case aside.
+pub fn is_attribution(input: &[u8], token: Part) -> YesNo
+    ensures { λ r. ⌜ yesNoSays r ≡ questionAnswer Kind.Attribution (now (input .entry)) (token .start) (token .end) ⌝ }
+{
+    is_of_kind(input, token, Kind::Attribution)
+}
+
+// The first trailer of the body that has the name, ASCII case aside.
+pub fn find_trailer(body: &[u8], name: &[u8], out: &mut [u8]) -> TrailerFound
+    ensures { λ r. ⌜ trailerFoundSays r ≡ findAnswer (now (body .entry)) (now (name .entry)) (length (now (out .entry))) ⌝ }
+    ensures { λ _. ⌜ now (out .exit) ≡ findBuffer (now (body .entry)) (now (name .entry)) (now (out .entry)) ⌝ }
+{
+    if body.len() > LIMIT {
+        return TrailerFound::Refused(Refusal::TooLong);
+    }
+    if name.len() > LIMIT {
+        return TrailerFound::Refused(Refusal::TooLong);
+    }
+    let at = paragraph::trailer_block_start(body);
+    let NextTrailer::Trailer(places) = find_named(body, at, name) else {
+        return TrailerFound::NoSuchTrailer;
+    };
+    let read = read_trailer(body, places, out);
+    match read {
+        TrailerRead::Trailer(found) => TrailerFound::Trailer(found),
+        TrailerRead::Refused(refusal) => TrailerFound::Refused(refusal),
+    }
+}

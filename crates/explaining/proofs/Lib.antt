@@ -1,0 +1,3 @@
+-- Laws of the kinds of lines.
+pub mod Counted
+pub mod Verdicts

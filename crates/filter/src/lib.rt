@@ -1,0 +1,122 @@
+// The filters of the trailer walk, by the kind of a token and by a name: which trailers a step answers.
+ghost use mathlib.Core.Path.{_≡_};
+ghost use Prim.Native.Nat.{_≤_};
+ghost use lib.ListN.{length};
+ghost use Rattle.rules.specs.Trailer.{attribution, author, isOf, lookup, only, walkFrom};
+ghost use Rattle.trailer.specs.Walk.{nextOf};
+ghost use Rattle.filter.specs.Lookup.{isWanted, lookedUp, nextWanted};
+use rules::Kind;
+use text::fixed::eq_ignore_ascii_case;
+use trailer::walk::NextTrailer;
+use trailer::walk::next_trailer_from;
+
+// The six attribution tokens.
+const SIGNED_OFF_BY: [u8; 13] = *b"Signed-off-by";
+
+const CO_AUTHORED_BY: [u8; 14] = *b"Co-authored-by";
+
+const ASSISTED_BY: [u8; 11] = *b"Assisted-by";
+
+const ACKED_BY: [u8; 8] = *b"Acked-by";
+
+const REVIEWED_BY: [u8; 11] = *b"Reviewed-by";
+
+const TESTED_BY: [u8; 9] = *b"Tested-by";
+
+// Whether a token is one of the two that name an author.
+fn is_author(token: &[u8]) -> bool
+    ensures { λ r. ⌜ r ≡ author (now (token .entry)) ⌝ }
+{
+    if eq_ignore_ascii_case(token, &SIGNED_OFF_BY) {
+        return true;
+    }
+    eq_ignore_ascii_case(token, &CO_AUTHORED_BY)
+}
+
+// Whether a token is one of the six attribution tokens.
+fn is_attribution(token: &[u8]) -> bool
+    ensures { λ r. ⌜ r ≡ attribution (now (token .entry)) ⌝ }
+{
+    if is_author(token) {
+        return true;
+    }
+    if eq_ignore_ascii_case(token, &ASSISTED_BY) {
+        return true;
+    }
+    if eq_ignore_ascii_case(token, &ACKED_BY) {
+        return true;
+    }
+    if eq_ignore_ascii_case(token, &REVIEWED_BY) {
+        return true;
+    }
+    eq_ignore_ascii_case(token, &TESTED_BY)
+}
+
+// Whether a token is of a kind.
+pub fn is_of(kind: Kind, token: &[u8]) -> bool
+    ensures { λ r. ⌜ r ≡ isOf kind (now (token .entry)) ⌝ }
+{
+    match kind {
+        Kind::All => true,
+        Kind::SignedOffBy => eq_ignore_ascii_case(token, &SIGNED_OFF_BY),
+        Kind::CoAuthoredBy => eq_ignore_ascii_case(token, &CO_AUTHORED_BY),
+        Kind::AssistedBy => eq_ignore_ascii_case(token, &ASSISTED_BY),
+        Kind::AckedBy => eq_ignore_ascii_case(token, &ACKED_BY),
+        Kind::ReviewedBy => eq_ignore_ascii_case(token, &REVIEWED_BY),
+        Kind::TestedBy => eq_ignore_ascii_case(token, &TESTED_BY),
+        Kind::Attribution => is_attribution(token),
+        Kind::Author => is_author(token),
+    }
+}
+
+// What a trailer is wanted by: the kind of its token, or the name that is lent beside.
+enum Wanted {
+    OfKind(Kind),
+    Named,
+}
+
+// Whether a token is wanted. A name is compared ASCII case aside; an empty name is no token's.
+fn is_wanted(wanted: Wanted, name: &[u8], token: &[u8]) -> bool
+    ensures { λ r. ⌜ r ≡ isWanted wanted (now (name .entry)) (now (token .entry)) ⌝ }
+{
+    match wanted {
+        Wanted::OfKind(kind) => is_of(kind, token),
+        Wanted::Named => name.len() != 0 && eq_ignore_ascii_case(name, token),
+    }
+}
+
+// The first trailer of the walk from `at` on whose token is wanted; the others are passed over.
+fn next_wanted(body: &[u8], at: usize, wanted: Wanted, name: &[u8]) -> NextTrailer
+    requires { ⌜ at ≤ length (now body) ⌝ }
+    ensures { λ r. ⌜ r ≡ nextWanted wanted (now (name .entry)) (walkFrom (now (body .entry)) at) ⌝ }
+{
+    let mut from = at;
+    loop {
+        let found = next_trailer_from(body, from);
+        let NextTrailer::Trailer(places) = found else {
+            return NextTrailer::End;
+        };
+        let start = places.start;
+        let token_end = places.token_end;
+        if is_wanted(wanted, name, &body[start..token_end]) {
+            return found;
+        }
+        from = places.end;
+    }
+}
+
+// The first trailer of the walk from `at` on whose token is of the kind.
+pub fn next_of(body: &[u8], at: usize, kind: Kind) -> NextTrailer
+    requires { ⌜ at ≤ length (now body) ⌝ }
+    ensures { λ r. ⌜ r ≡ nextOf (only kind (walkFrom (now (body .entry)) at)) ⌝ }
+{
+    next_wanted(body, at, Wanted::OfKind(kind), b"")
+}
+
+// The first trailer of the walk from `at` on that has the name.
+pub fn find_named(body: &[u8], at: usize, name: &[u8]) -> NextTrailer
+    requires { ⌜ at ≤ length (now body) ⌝ }
+    ensures { λ r. ⌜ r ≡ lookedUp (lookup (now (name .entry)) (walkFrom (now (body .entry)) at)) ⌝ }
+{
+    next_wanted(body, at, Wanted::Named, name)
+}

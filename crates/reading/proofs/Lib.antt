@@ -1,2 +1,0 @@
--- Laws of the kinds of lines.
-pub mod Counted

@@ -1,2 +1,0 @@
--- The kinds of the lines of the last paragraph.
-pub mod Kinds

@@ -1,0 +1,37 @@
+// The record of a trailer, read from where the trailer stands.
+ghost use mathlib.Core.Path.{_≡_};
+ghost use Prim.Native.Nat.{_-_, _≤_};
+ghost use lib.ListN.{length, take, drop};
+ghost use Rattle.rules.specs.Record.{fitted, writtenOf};
+ghost use Rattle.record.specs.Read.{trailerRead};
+use rules::Part;
+use rules::Places;
+use rules::Refusal;
+use rules::TrailerRef;
+use rules::ValueFound;
+use value::read_value;
+
+// Of `read_trailer`; a refusal is one for too little room.
+pub enum TrailerRead {
+    Trailer(TrailerRef),
+    Refused(Refusal),
+}
+
+// The record of the trailer that stands at the places `at` of `body`. A folded value is written to the front of `out`.
+pub fn read_trailer(body: &[u8], at: Places, out: &mut [u8]) -> TrailerRead
+    requires { ⌜ (at .«value_start» ≤ at .end) × (at .end ≤ length (now body)) ⌝ }
+    ensures { λ r. ⌜ r ≡ trailerRead at (take (at .end - at .«value_start») (drop (at .«value_start») (now (body .entry)))) (length (now (out .entry))) ⌝ }
+    ensures { λ _. ⌜ now (out .exit) ≡ fitted (writtenOf (take (at .end - at .«value_start») (drop (at .«value_start») (now (body .entry))))) (now (out .entry)) ⌝ }
+{
+    let read = read_value(body, at.value_start, at.end, out);
+    match read {
+        ValueFound::At(value) => TrailerRead::Trailer(TrailerRef {
+            token: Part {
+                start: at.start,
+                end: at.token_end,
+            },
+            value,
+        }),
+        ValueFound::Refused(refusal) => TrailerRead::Refused(refusal),
+    }
+}

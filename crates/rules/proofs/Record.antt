@@ -1,0 +1,26 @@
+-- A trailer that stands in a body, by its places: they are in order and inside the body, and its token and its raw value are what
+-- stands between them. Assumes nothing.
+use mathlib.Core.List.{List}
+use mathlib.Core.Path.{_≡_}
+use Prim.Native.Nat.{ℕ, _+_, _-_, _≤_, _<_}
+use native.Mathlib.Omega.{arith}
+use lib.ListN.{length, take, drop}
+use Rattle.rules.specs.Record.{placesOf}
+use Rattle.rules.specs.Trailer.{Trailer, placeOf, endOf, tokenOf, rawValue, rawValueAt}
+use Rattle.rules.specs.declared.Places.{Places}
+use Rattle.rules.proofs.Walk.{Stands}
+
+module _ {body : List ℕ} {t : Trailer} {at : Places} (w : Stands body t) (e : at ≡ placesOf t) where
+  pub places-fit : (at .start ≤ at .«token_end») × (at .«token_end» < at .«value_start») × (at .«value_start» ≤ at .end) × (at .end ≤ length body)
+  places-fit = rw e (omega (arith, w .token-ends, w .raw-ends, w .inside))
+
+  pub token-is : take (at .«token_end» - at .start) (drop (at .start) body) ≡ tokenOf t
+  token-is =
+      let size : placeOf t + length (tokenOf t) - placeOf t ≡ length (tokenOf t) = omega arith in
+      rw (e, size) (w .token-at)
+
+  -- the raw value stands behind the colon, up to the trailer's end
+  pub raw-is : take (at .end - at .«value_start») (drop (at .«value_start») body) ≡ rawValue t
+  raw-is =
+      let size : endOf t - rawValueAt t ≡ length (rawValue t) = omega (arith, w .raw-ends) in
+      rw (e, size) (w .raw-value-at)
