@@ -11,7 +11,7 @@ use lib.Seq.{drop-append-seam, drop-drop, length-take-le, take-all, take-append-
 use Rattle.rules.specs.Lists.{if_then_else_, filled}
 use Rattle.rules.specs.White.{Form, formAt, trimStart, trimEnd, trim, trimAt}
 use Rattle.rules.proofs.Lists.{filled-some}
-use Rattle.rules.proofs.White.{EndsWithNone, form, bare, form-at, form-back, form-filled, form-length, front-trimmed}
+use Rattle.rules.proofs.White.{EndsWithNone, form, bare, form-at, form-filled, form-length, front-trimmed}
 use Rattle.rules.proofs.White.{trimStart-step, trimStart-stop, trimEnd-step, trimEnd-stop}
 use Rattle.white.specs.White.{lastForm, formEnd}
 use Rattle.white.proofs.Forms.{form-at-most-three}
@@ -64,13 +64,6 @@ end-by-tests false false false s p q r = bare-last none refl
 pub form-end : (s : List ℕ) → Back s (formEnd s)
 unfolding formEnd
 form-end s = end-by-tests (lastForm 1 s) (lastForm 2 s) (lastForm 3 s) s refl refl refl
-
-pub form-end-length : (f rest : List ℕ) → Form f → formEnd (rest ++ f) ≡ length f
-form-end-length f rest m =
-    elim (form-end (rest ++ f)) [
-      | form-last g r n e l ↦ l ∙ ap length (sym (form-back rest f r g m n e))
-      | bare-last b z ↦ absurd (b f rest m refl)
-    ]
 
 -- ---- the scan from the front: where it stands, as much is left to trim as at first
 
