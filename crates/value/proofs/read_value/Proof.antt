@@ -22,6 +22,10 @@ part-raw-end c = search needs
 is-folded-requires : tie.Need-is-folded-requires
 is-folded-requires c κs = search needs
 
+-- the start, from where the raw value is known to be folded or not
+abbrev start : tie.After-is-folded → tie.Start
+start f = let raw = f .before in raw .before .before .before
+
 unfold-value-requires : tie.Need-unfold-value-requires
 unfold-value-requires c κs = search needs
 
@@ -30,36 +34,37 @@ same-length c = search needs
 
 returns : tie.Need-returns
 returns c =
-    let f = c .before .before .before .before .before in
-    let a = f .before .before .before .before .args in
+    let u = c .before .before in let f = u .before .before .before in
+    let a = start f .args in
     let raw = take (a .to - a .from) (drop (a .from) (a .body .now)) in
-    let q = sym (f .is-folded .ensures) ∙ c .before .before .before .before .if1 .taken in
-    let u = c .before .before .unfold-value .ensures in
-    (u .0 ∙ value-folded (a .from) raw q (length (a .out .now)), u .1 ∙ buffer-folded (a .from) raw q (a .out .now))
+    let q = sym (f .is-folded .ensures) ∙ u .before .before .if1 .taken in
+    (u .unfold-value .ensures .0 ∙ value-folded (a .from) raw q (length (a .out .now)), u .unfold-value .ensures .1 ∙ buffer-folded (a .from) raw q (a .out .now))
 
 trim-requires : tie.Need-trim-requires
 trim-requires c κs = search needs
 
 -- the part that trimming keeps lies in the raw value, and the raw value in the body
-inside : (t : tie.After-trim) → let a = t .before .before .before .before .before .before .args in
+inside : (t : tie.After-trim) → let a = start (t .before .before) .args in
     (a .from + t .trim .result .start ≤ a .to) × (a .from + t .trim .result .end ≤ a .to)
 inside t =
-    let a = t .before .before .before .before .before .before .args in
-    let size = length-take-le (a .to - a .from) (drop (a .from) (a .body .now)) (omega (arith, length-drop (a .from) (a .body .now), t .before .before .before .before .before .before .pre)) in
-    omega (arith, size, trim-fits (take (a .to - a .from) (drop (a .from) (a .body .now))), t .trim .ensures, t .before .before .before .before .before .before .pre)
+    let s = start (t .before .before) in
+    let a = s .args in
+    let rest = drop (a .from) (a .body .now) in
+    let size = length-take-le (a .to - a .from) rest (omega (arith, length-drop (a .from) (a .body .now), s .pre)) in
+    omega (arith, size, trim-fits (take (a .to - a .from) rest), t .trim .ensures, s .pre)
 
 add-start : tie.Need-add-start
-add-start c = omega (arith, inside (c .before), c .before .before .before .before .before .before .before .pre)
+add-start c = omega (arith, inside (c .before))
 
 add-end : tie.Need-add-end
-add-end c = omega (arith, inside (c .before .before), c .before .before .before .before .before .before .before .before .pre)
+add-end c = omega (arith, inside (c .before .before))
 
 returns-2 : tie.Need-returns-2
 returns-2 c =
-    let t = c .before .before in
-    let a = t .before .before .before .before .before .before .args in
+    let t = c .before .before in let f = t .before .before in
+    let a = start f .args in
     let raw = take (a .to - a .from) (drop (a .from) (a .body .now)) in
-    let q = sym (t .before .before .is-folded .ensures) ∙ t .before .if1 .left in
+    let q = sym (f .is-folded .ensures) ∙ t .before .if1 .left in
     (rw (t .trim .ensures .0, t .trim .ensures .1) (value-part (a .from) raw q (length (a .out .now))), buffer-part (a .from) raw q (a .out .now))
 
 pub read-value-spec : {M : Type 1} → statement M

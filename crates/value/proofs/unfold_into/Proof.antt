@@ -54,24 +54,22 @@ trim-line-requires c κs = search needs
 
 push-line-requires : tie.Need-push-line-requires Inv-loop μ-loop
 push-line-requires c κs =
-    let l = c .before .before .before .before .before .before in
-    let n = c .before .before .before .line-len in (
+    let n = c .before .before .before in
+    let l = n .before .before .before in (
       omega arith,
-      next-fits (l .loop .inv .1) (n .result) (omega arith) (n .ensures) (c .before .trim-line .ensures) (l .before .before .before .pre),
+      next-fits (l .loop .inv .1) _ (omega arith) (n .line-len .ensures) (c .before .trim-line .ensures) (l .before .before .before .pre),
     )
 
 loop-less : tie.Need-loop-less Inv-loop μ-loop
-loop-less c = omega (arith, ahead (c .before .before .before .before .before .before))
+loop-less c = let p = c .before .before .before in omega (arith, ahead (p .before .before .before))
 
 loop-again : tie.Need-loop-again Inv-loop μ-loop
 loop-again c =
-    let l = c .before .before .before .before .before .before .before .before .before in
-    let n = c .before .before .before .before .before .before .line-len in
-    let kept = c .before .before .before .before .trim-line in
-    let (end, content) = c .before .before .push-line .ensures in
-    let room = l .before .before .before .pre in (
-      ahead (c .before .before .before .before .before .before) .1,
-      written-step (l .loop .inv .1) (n .result) (omega arith) (n .ensures) (kept .ensures) room _ _ end content,
+    let p = c .before .before in let k = p .before .before in let n = k .before .before in
+    let l = n .before .before .before in
+    let (end, content) = p .push-line .ensures in (
+      ahead n .1,
+      written-step (l .loop .inv .1) _ (omega arith) (n .line-len .ensures) (k .trim-line .ensures) (l .before .before .before .pre) _ _ end content,
     )
 
 same-length : tie.Need-same-length Inv-loop μ-loop

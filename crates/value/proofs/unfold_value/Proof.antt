@@ -8,7 +8,9 @@ use Rattle.value.proofs.unfold_value.Statement.{statement}
 use Rattle.value.proofs.unfold_value.Tie as tie
 
 unfold-fitting-requires : tie.Need-unfold-fitting-requires
-unfold-fitting-requires c κs = omega (arith, unfolded-short (c .before .before .before .before .args .value .now), c .before .if1 .taken)
+unfold-fitting-requires c κs =
+    let fits = c .before in
+    omega (arith, unfolded-short (fits .before .before .before .args .value .now), fits .if1 .taken)
 
 same-length : tie.Need-same-length
 same-length c = search needs

@@ -58,32 +58,29 @@ trim-line-requires : tie.Need-trim-line-requires Inv-loop μ-loop
 trim-line-requires c κs = search needs
 
 -- what the lines make with the next one
-with-line : (c : tie.After-trim-line Inv-loop μ-loop) → let l = c .before .before .before .before .before in
+with-line : (c : tie.After-trim-line Inv-loop μ-loop) → let n = c .before .before in let l = n .before .before .before in
     (done : List ℕ) × (length done ≡ joinedLength (l .loop .len) (length (c .trim-line .result .now)))
-    × Half (l .before .before .args .value .now) (l .loop .at + c .before .before .line-len .result) done
+    × Half (l .before .before .args .value .now) (l .loop .at + n .line-len .result) done
 with-line c =
-    let l = c .before .before .before .before .before in
-    let n = c .before .before .line-len in
-    let (done, len, half) = l .loop .inv .1 in
+    let n = c .before .before in
+    let (done, len, half) = n .before .before .before .loop .inv .1 in
     let piece = c .trim-line .result .now in (
       joined done piece,
       length-joined done piece ∙ rw len,
-      half-step half (n .result) (omega arith) (n .ensures) (c .trim-line .ensures),
+      half-step half (n .line-len .result) (omega arith) (n .line-len .ensures) (c .trim-line .ensures),
     )
 
 joined-len-requires : tie.Need-joined-len-requires Inv-loop μ-loop
 joined-len-requires c κs =
-    let s = c .before .before .before .before .before .before .before .args .value .now in
+    let n = c .before .before in let l = n .before .before .before in
     let (done, len, half) = with-line c in
-    omega (arith, len, half-within half, unfolded-short s)
+    omega (arith, len, half-within half, unfolded-short (l .before .before .args .value .now))
 
 loop-less : tie.Need-loop-less Inv-loop μ-loop
 loop-less c = omega (arith, ahead (c .before .before .before))
 
 loop-again : tie.Need-loop-again Inv-loop μ-loop
 loop-again c =
-    let l = c .before .before .before .before .before .before in
-    let n = c .before .before .before .line-len in
     let (done, len, half) = with-line (c .before) in
     (ahead (c .before .before .before) .1, (done, len ∙ sym (c .joined-len .ensures), half))
 
