@@ -1,13 +1,12 @@
 -- Runs without an LF: a search goes on behind them, forward and backward. Assumes nothing.
-use mathlib.Core.Bool.{Bool, true, false, false≢true, not, or-assoc, or-false, _||_}
+use mathlib.Core.Bool.{Bool, true, false, false≢true, or-assoc, or-false, _||_}
 use mathlib.Core.List.{List, [], _∷_}
 use mathlib.Core.Path.{_≡_, refl, sym, ap, _∙_}
 use Prim.Native.Nat.{ℕ, zero, suc, _+_, _≤_, _<_}
 use native.Mathlib.Omega.{arith}
-use lib.ListN.{length, take, drop, getD, length-append}
+use lib.ListN.{length, take, drop, getD}
 use lib.Seq.{drop-cons}
-use Rattle.rules.proofs.Lists.{run-past}
-use Rattle.rules.specs.Lists.{any, past, run}
+use Rattle.rules.specs.Lists.{any}
 use Rattle.find.specs.Find.{behindLF, isLF, untilLF}
 
 or-none : (a b : Bool) → (a || b) ≡ false → (a ≡ false) × (b ≡ false)

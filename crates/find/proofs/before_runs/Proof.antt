@@ -33,19 +33,18 @@ has-lf-requires : tie.Need-has-lf-requires Inv-loop μ-loop
 has-lf-requires c κs = search needs
 
 returns : tie.Need-returns Inv-loop μ-loop
-returns c = c .before .before .before .before .loop .inv
+returns c = let r = c .before in r .before .before .before .loop .inv
 
 loop-less : tie.Need-loop-less Inv-loop μ-loop
 loop-less c = search needs
 
 loop-again : tie.Need-loop-again Inv-loop μ-loop
 loop-again c =
-    let l = c .before .before .before .before in
-    let s = l .before .before .args .s .now in
+    let r = c .before in let l = r .before .before .before in let s = l .before .before .args .s .now in
     let i = l .loop .i in
     let size : i - (i - 16) ≡ 16 = omega arith in
     let end : i - 16 + 16 ≡ i = omega arith in
-    let none : any isLF (take 16 (drop (i - 16) s)) ≡ false = rw size at (sym (c .before .has-lf .ensures) ∙ c .if1 .left) in
+    let none : any isLF (take 16 (drop (i - 16) s)) ≡ false = rw size at (sym (r .has-lf .ensures) ∙ c .if1 .left) in
     (omega arith, (rw end at (before-run 16 s (i - 16) (omega arith) none)) ∙ l .loop .inv .1)
 
 returns-2 : tie.Need-returns-2 Inv-loop μ-loop

@@ -62,7 +62,7 @@ loop-again c =
     omega (arith, passed (l .before .before .before .args .s .now) (l .loop .i) (search needs) (c .if1 .left))
 
 returns-2 : tie.Need-returns-2 Inv-loop μ-loop
-returns-2 c = omega (arith, none (c .before .before .before .before .args .s .now) (c .before .loop .i) (c .loop-test .left))
+returns-2 c = let l = c .before in omega (arith, none (l .before .before .before .args .s .now) (l .loop .i) (c .loop-test .left))
 
 pub behind-lf-spec : {M : Type 1} → statement M
 behind-lf-spec =

@@ -54,7 +54,7 @@ loop-again c =
     omega (arith, goes (l .before .before .before .args .s .now) (l .loop .i) (search needs) (c .if1 .left))
 
 returns-2 : tie.Need-returns-2 Inv-loop μ-loop
-returns-2 c = omega (arith, over (c .before .before .before .before .args .s .now) (c .before .loop .i) (c .loop-test .left))
+returns-2 c = let l = c .before in omega (arith, over (l .before .before .before .args .s .now) (l .loop .i) (c .loop-test .left))
 
 pub find-lf-spec : {M : Type 1} → statement M
 find-lf-spec =

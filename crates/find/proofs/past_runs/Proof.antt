@@ -39,7 +39,7 @@ has-lf-requires : tie.Need-has-lf-requires Inv-loop μ-loop
 has-lf-requires c κs = search needs
 
 returns : tie.Need-returns Inv-loop μ-loop
-returns c = c .before .before .before .before .loop .inv
+returns c = let r = c .before in r .before .before .before .loop .inv
 
 add-i : tie.Need-add-i Inv-loop μ-loop
 add-i c = search needs
@@ -49,11 +49,10 @@ loop-less c = search needs
 
 loop-again : tie.Need-loop-again Inv-loop μ-loop
 loop-again c =
-    let l = c .before .before .before .before in
-    let s = l .before .before .args .s .now in
+    let r = c .before in let l = r .before .before .before in let s = l .before .before .args .s .now in
     let i = l .loop .i in
     let size : i + 16 - i ≡ 16 = omega arith in
-    let none : any isLF (take 16 (drop i s)) ≡ false = rw size at (sym (c .before .has-lf .ensures) ∙ c .if1 .left) in
+    let none : any isLF (take 16 (drop i s)) ≡ false = rw size at (sym (r .has-lf .ensures) ∙ c .if1 .left) in
     omega (arith, past-run 16 s i (omega arith) none)
 
 returns-2 : tie.Need-returns-2 Inv-loop μ-loop

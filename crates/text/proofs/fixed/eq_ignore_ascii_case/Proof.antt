@@ -69,18 +69,18 @@ loop-less c = search needs
 
 loop-again : tie.Need-loop-again Inv-loop μ-loop
 loop-again c =
-    let l = c .before .before .before .before .before in
-    let a = l .before .before .before .before .args .a .now in
-    let b = l .before .before .before .before .args .b .now in
-    let x = c .before .before .to-ascii-lowercase in
+    let r = c .before .before in let l = r .before .before .before in let even = l .before in
+    let a = even .before .before .before .args .a .now in
+    let b = even .before .before .before .args .b .now in
+    let x = r .to-ascii-lowercase in
     let y = c .to-ascii-lowercase2 in
     (search needs, l .loop .inv .1 ∙ step a b (l .loop .i) (x .result) (y .result) (l .loop .alike) (omega arith) (omega arith) (x .ensures) (y .ensures))
 
 returns-2 : tie.Need-returns-2 Inv-loop μ-loop
 returns-2 c =
-    let a = c .before .before .before .before .before .args .a .now in
-    let b = c .before .before .before .before .before .args .b .now in
-    sym (c .before .loop .inv .1 ∙ rw (over a b (c .before .loop .i) (c .loop-test .left) (omega arith)) (and-true (c .before .loop .alike)))
+    let l = c .before in let even = l .before in let a = even .before .before .before .args .a .now in
+    let b = even .before .before .before .args .b .now in
+    sym (l .loop .inv .1 ∙ rw (over a b (l .loop .i) (c .loop-test .left) (omega arith)) (and-true (l .loop .alike)))
 
 pub eq-ignore-ascii-case-spec : {M : Type 1} → statement M
 eq-ignore-ascii-case-spec =

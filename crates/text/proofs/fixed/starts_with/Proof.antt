@@ -44,8 +44,7 @@ shared-slice-read-if2-2 c = search needs
 
 returns-2 : tie.Need-returns-2 Inv-loop μ-loop
 returns-2 c =
-    let l = c .before .before .before .before in
-    let s = l .before .before .args .s .now in
+    let t = c .before .before .before in let l = t .before in let s = l .before .before .args .s .now in
     let p = l .before .before .args .p .now in
     let i = l .loop .i in
     let b : eqb (getD p i 0) (getD s i 0) ≡ false = ne-eqb _ _ (λ e. c .if2 .taken (sym e)) in
@@ -59,8 +58,7 @@ loop-less c = search needs
 
 loop-again : tie.Need-loop-again Inv-loop μ-loop
 loop-again c =
-    let l = c .before .before .before .before in
-    let s = l .before .before .args .s .now in
+    let t = c .before .before .before in let l = t .before in let s = l .before .before .args .s .now in
     let p = l .before .before .args .p .now in
     let i = l .loop .i in
     let b : eqb (getD p i 0) (getD s i 0) ≡ true = eq-eqb _ _ (sym (c .if2 .left)) in

@@ -7,8 +7,6 @@ use lib.Dec.{eqb}
 use Rattle.rules.specs.Bytes.{blankByte}
 use Rattle.text.proofs.line.is_ascii_whitespace.Statement.{statement}
 use Rattle.text.proofs.line.is_ascii_whitespace.Tie as tie
-use Rattle.text.proofs.line.is_ascii_whitespace.Reads as reads
-use Rattle.text.proofs.line.is_ascii_whitespace.Lts as lts
 
 -- what `a || b` gives, by the way that was taken
 either : {A B : Type 0} (a b r : Bool) → (A → a ≡ true) → (B → a ≡ false) → (A × (r ≡ a)) ⊎ (B × (r ≡ b)) → r ≡ a || b
@@ -16,7 +14,7 @@ either a b r t f (inl w) = rw (t (w .0)) (w .1 ∙ t (w .0))
 either a b r t f (inr w) = rw (f (w .0)) (w .1)
 
 -- the first four tests
-tests : (c : lts.Joined3 reads.Pre reads.Post)
+tests : (c : tie.Joined3)
     → let b = c .before .before .before .args .byte in c .if3 .if4 ≡ eqb b 32 || eqb b 9 || eqb b 10 || eqb b 12
 tests c =
     let b = c .before .before .before .args .byte in

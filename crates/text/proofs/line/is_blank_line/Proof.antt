@@ -37,10 +37,9 @@ is-ascii-whitespace-requires c κs = search needs
 
 returns : tie.Need-returns Inv-loop μ-loop
 returns c =
-    let l = c .before .before .before .before in
-    let s = l .before .before .args .line .now in
+    let r = c .before in let l = r .before .before .before in let s = l .before .before .args .line .now in
     let i = l .loop .i in
-    let w : false ≡ blankByte (getD s i 0) = sym (not-true _ (c .if1 .taken)) ∙ c .before .is-ascii-whitespace .ensures in
+    let w : false ≡ blankByte (getD s i 0) = sym (not-true _ (c .if1 .taken)) ∙ r .is-ascii-whitespace .ensures in
     sym (l .loop .inv .1 ∙ step s i false (omega arith) w)
 
 add-i : tie.Need-add-i Inv-loop μ-loop
@@ -51,10 +50,9 @@ loop-less c = search needs
 
 loop-again : tie.Need-loop-again Inv-loop μ-loop
 loop-again c =
-    let l = c .before .before .before .before in
-    let s = l .before .before .args .line .now in
+    let r = c .before in let l = r .before .before .before in let s = l .before .before .args .line .now in
     let i = l .loop .i in
-    let w : true ≡ blankByte (getD s i 0) = sym (not-false _ (c .if1 .left)) ∙ c .before .is-ascii-whitespace .ensures in
+    let w : true ≡ blankByte (getD s i 0) = sym (not-false _ (c .if1 .left)) ∙ r .is-ascii-whitespace .ensures in
     (search needs, l .loop .inv .1 ∙ step s i true (omega arith) w)
 
 returns-2 : tie.Need-returns-2 Inv-loop μ-loop

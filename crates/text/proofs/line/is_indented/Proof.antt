@@ -32,7 +32,8 @@ is-ascii-whitespace-requires c κs = search needs
 
 returns-2 : tie.Need-returns-2
 returns-2 c =
-    c .is-ascii-whitespace .ensures ∙ begun (c .before .before .before .before .args .line .now) (c .before .before .if1 .left)
+    let some = c .before .before in
+    c .is-ascii-whitespace .ensures ∙ begun (some .before .before .args .line .now) (some .if1 .left)
 
 pub is-indented-spec : {M : Type 1} → statement M
 is-indented-spec =

@@ -46,18 +46,18 @@ sub-result c = search needs
 
 slice-aggregate-result : tie.Need-slice-aggregate-result
 slice-aggregate-result c =
-    let l = c .before .before .before .before .args .line .now in
+    let some = c .before .before .before in let l = some .before .args .line .now in
     sym (length-take-le (length l - 1) l (omega arith))
 
 returns-2 : tie.Need-returns-2
 returns-2 c =
-    let a = c .before .before .before .before .args in
-    last-goes (a .byte) (a .line .now) (c .before .before .before .if1 .left) (c .before .if2 .taken)
+    let some = c .before .before .before in let a = some .before .args in
+    last-goes (a .byte) (a .line .now) (some .if1 .left) (c .before .if2 .taken)
 
 returns-3 : tie.Need-returns-3
 returns-3 c =
-    let a = c .before .before .before .args in
-    last-stays (a .byte) (a .line .now) (c .before .before .if1 .left) (c .if2 .left)
+    let some = c .before .before in let a = some .before .args in
+    last-stays (a .byte) (a .line .now) (some .if1 .left) (c .if2 .left)
 
 pub strip-suffix-spec : {M : Type 1} → statement M
 strip-suffix-spec =
