@@ -2,7 +2,7 @@
 use mathlib.Core.Bool.{true, false}
 use mathlib.Core.List.{List, [], _∷_}
 use mathlib.Core.Option.{Option, none, some}
-use mathlib.Core.Path.{_≡_, refl, sym, ap, _∙_}
+use mathlib.Core.Path.{_≡_, refl, ap, _∙_}
 use Prim.Native.Nat.{ℕ, _-_, _≤_}
 use native.Mathlib.Omega.{arith}
 use borrow.Author.Tests.{le-ltb}
@@ -14,11 +14,11 @@ use Rattle.filter.specs.Lookup.{lookedUp}
 use Rattle.record.proofs.Read.{read-answer, read-left, saidOf}
 use Rattle.record.specs.Read.{trailerRead}
 use Rattle.record.specs.declared.TrailerRead.{TrailerRead}
-use Rattle.rules.specs.Answers.{Said, says, judged, limit, noRoom, number, trailerFoundSays, trailerStepSays, values}
+use Rattle.rules.specs.Answers.{Said, judged, limit, noRoom, number, trailerFoundSays, trailerStepSays, values}
 use Rattle.rules.specs.Division.{Block, block}
 use Rattle.rules.specs.Paragraph.{blockStart}
 use Rattle.rules.specs.Record.{fitted, placesOf, recordOf, writtenOf}
-use Rattle.rules.specs.Trailer.{Trailer, endOf, lookup, only, rawValue, walkFrom}
+use Rattle.rules.specs.Trailer.{Trailer, lookup, only, rawValue, walkFrom}
 use Rattle.rules.specs.declared.BlockStep.{BlockStep}
 use Rattle.rules.specs.declared.Kind.{Kind}
 use Rattle.rules.specs.declared.Places.{Places}

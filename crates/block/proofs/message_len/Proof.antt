@@ -1,11 +1,11 @@
 -- `block::message_len` meets its contract. The invariant: the message from the front on is what is passed and the message
 -- from `len` on. Assumes nothing.
 use mathlib.Core.Path.{_≡_, refl, sym, _∙_}
-use Prim.Native.Nat.{_+_, _-_, _≤_}
+use Prim.Native.Nat.{_+_, _-_, _≤_, _<_}
 use native.Mathlib.Omega.{arith}
 use borrow.Author.Needs.{needs}
 use lib.ListN.{length, drop, drop-of-length-le}
-use Rattle.text.proofs.ByLines.{line-some, line-within}
+use Rattle.text.proofs.ByLines.{line-ahead}
 use Rattle.trailer.proofs.AtStart.{no-trailer-there, trailer-there}
 use Rattle.block.specs.Step.{messageLength}
 use Rattle.block.proofs.Step.{message-ends, message-line}
@@ -38,8 +38,8 @@ enum-told c = search needs
 
 returns : tie.Need-returns Inv-loop μ-loop
 returns c =
-    let l = c .before .before .before .before .before in
-    let found = sym (c .before .before .parse-trailer-line .ensures) ∙ c .enum-told .given .1 in
+    let r = c .before .before in let l = r .before .before .before in
+    let found = sym (r .parse-trailer-line .ensures) ∙ c .enum-told .given .1 in
     omega (arith, message-ends (l .before .before .args .cursor .now) (l .loop .len) (trailer-there _ _ found refl))
 
 enum-told-2 : tie.Need-enum-told-2 Inv-loop μ-loop
@@ -48,25 +48,24 @@ enum-told-2 c = search needs
 line-len-requires : tie.Need-line-len-requires Inv-loop μ-loop
 line-len-requires c κs = search needs
 
+-- a line is ahead
+ahead : (c : tie.After-line-len Inv-loop μ-loop) → let r = c .before .before .before in let l = r .before .before .before in
+    (0 < c .line-len .result) × (l .loop .len + c .line-len .result ≤ length (l .before .before .args .cursor .now))
+ahead c =
+    let r = c .before .before .before in let l = r .before .before .before in
+    line-ahead (l .before .before .args .cursor .now) (l .loop .len) (c .line-len .result) (omega arith) (c .line-len .ensures)
+
 add-len : tie.Need-add-len Inv-loop μ-loop
-add-len c =
-    let l = c .before .before .before .before .before .before in
-    omega (arith, line-within (l .before .before .args .cursor .now) (l .loop .len) _ (omega arith) (c .line-len .ensures))
+add-len c = omega (arith, ahead c)
 
 loop-less : tie.Need-loop-less Inv-loop μ-loop
-loop-less c =
-    let l = c .before .before .before .before .before .before in
-    let s = l .before .before .args .cursor .now in
-    let e = c .line-len .ensures in
-    omega (arith, line-some s (l .loop .len) _ (omega arith) e, line-within s (l .loop .len) _ (omega arith) e)
+loop-less c = omega (arith, ahead c)
 
 loop-again : tie.Need-loop-again Inv-loop μ-loop
 loop-again c =
-    let l = c .before .before .before .before .before .before in
-    let s = l .before .before .args .cursor .now in
-    let e = c .line-len .ensures in
-    let none = sym (c .before .before .before .parse-trailer-line .ensures) ∙ c .before .enum-told2 .given .1 in
-    (line-within s (l .loop .len) _ (omega arith) e, omega (arith, message-line s (l .loop .len) _ (omega arith) (no-trailer-there _ none) e))
+    let r = c .before .before .before in let l = r .before .before .before in
+    let none = no-trailer-there _ (sym (r .parse-trailer-line .ensures) ∙ c .before .enum-told2 .given .1) in
+    (ahead c .1, omega (arith, message-line (l .before .before .args .cursor .now) (l .loop .len) _ (omega arith) none (c .line-len .ensures)))
 
 returns-2 : tie.Need-returns-2 Inv-loop μ-loop
 returns-2 c =

@@ -1,6 +1,8 @@
 -- `block::next_block_from` meets its contract. Assumes nothing.
 use mathlib.Core.Path.{sym}
+use Prim.Native.Nat.{_+_, _≤_}
 use borrow.Author.Needs.{needs}
+use lib.ListN.{length}
 use Rattle.block.proofs.Step.{message-within, next-block-is, no-block, trailers-within}
 use Rattle.block.proofs.next_block_from.Statement.{statement}
 use Rattle.block.proofs.next_block_from.Tie as tie
@@ -23,19 +25,21 @@ part-message-len-end c = search needs
 message-len-requires : tie.Need-message-len-requires
 message-len-requires c κs = search needs
 
+-- the start, from where the message's length is known; the message ends in the body
+abbrev start : tie.After-message-len → tie.Start
+start m = let from = m .before .before in from .before .before .before
+
+within : (m : tie.After-message-len) → m .before .before .lines-start .result + m .message-len .result ≤ length (start m .args .body .now)
+within m = message-within (start m .args .body .now) _ _ (search needs) (m .message-len .ensures)
+
 add-message-end : tie.Need-add-message-end
-add-message-end c =
-    let k = message-within (c .before .before .before .before .before .args .body .now) _ _ (search needs) (c .message-len .ensures) in
-    search needs
+add-message-end c = let k = within c in search needs
 
 sub-trailers-len : tie.Need-sub-trailers-len
-sub-trailers-len c =
-    message-within (c .before .before .before .before .before .args .body .now) _ _ (search needs) (c .message-len .ensures)
+sub-trailers-len c = within c
 
 part-trailers-len-start : tie.Need-part-trailers-len-start
-part-trailers-len-start c =
-    let k = message-within (c .before .before .before .before .before .args .body .now) _ _ (search needs) (c .message-len .ensures) in
-    search needs
+part-trailers-len-start c = let k = within c in search needs
 
 part-trailers-len-end : tie.Need-part-trailers-len-end
 part-trailers-len-end c = search needs
@@ -46,15 +50,13 @@ trailers-len-requires c κs = search needs
 add-end : tie.Need-add-end
 add-end c =
     let m = c .before .before in
-    let body = m .before .before .before .before .before .args .body .now in
-    let k = trailers-within body _ _ (search needs) (m .message-len .ensures) _ (c .trailers-len .ensures) in
+    let k = trailers-within (start m .args .body .now) _ _ (search needs) (m .message-len .ensures) _ (c .trailers-len .ensures) in
     search needs
 
 returns-2 : tie.Need-returns-2
 returns-2 c =
-    let m = c .before .before in
-    let from = m .before .before in
-    let a = from .before .before .before .args in
+    let m = c .before .before in let from = m .before .before in
+    let a = start m .args in
     sym (next-block-is (a .body .now) _ _ (search needs) (m .message-len .ensures) _ (c .trailers-len .ensures)
     (a .at) (a .start) (search needs) (search needs) (from .lines-start .ensures))
 

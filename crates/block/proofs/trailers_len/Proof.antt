@@ -1,7 +1,7 @@
 -- `block::trailers_len` meets its contract. The invariant: the trailers from the front on are what is passed and the trailers
 -- from `len` on. Assumes nothing.
 use mathlib.Core.Path.{_≡_, sym, _∙_}
-use Prim.Native.Nat.{_+_, _-_, _≤_}
+use Prim.Native.Nat.{_+_, _-_, _≤_, _<_}
 use native.Mathlib.Omega.{arith}
 use borrow.Author.Needs.{needs}
 use lib.ListN.{length, drop}
@@ -34,32 +34,32 @@ trailer-at-start-requires c κs = search needs
 enum-known-trailer : tie.Need-enum-known-trailer Inv-loop μ-loop
 enum-known-trailer c = search needs
 
+-- a trailer is ahead
+ahead : (c : tie.After-known-told Inv-loop μ-loop) → let r = c .before .before .before in let l = r .before .before in
+    let s = l .before .before .args .cursor .now in let n = c .before .trailer .given .0 .1 .1 .0 in
+    (0 < n) × (l .loop .len + n ≤ length s) × (partLength (drop (l .loop .len) s) ≡ n + partLength (drop (l .loop .len + n) s))
+ahead c =
+    let r = c .before .before .before in let l = r .before .before in let s = l .before .before .args .cursor .now in
+    let found = sym (r .trailer-at-start .ensures) ∙ c .before .trailer .given .1 in
+    let (some, fits) = trailer-within s (l .loop .len) (omega arith) found in
+    (some, fits, part-trailer s (l .loop .len) found)
+
 add-len : tie.Need-add-len Inv-loop μ-loop
-add-len c =
-    let l = c .before .before .before .before .before in
-    let found = sym (c .before .before .before .trailer-at-start .ensures) ∙ c .before .trailer .given .1 in
-    omega (arith, trailer-within (l .before .before .args .cursor .now) (l .loop .len) (omega arith) found)
+add-len c = omega (arith, ahead c)
 
 loop-less : tie.Need-loop-less Inv-loop μ-loop
-loop-less c =
-    let l = c .before .before .before .before .before in
-    let found = sym (c .before .before .before .trailer-at-start .ensures) ∙ c .before .trailer .given .1 in
-    omega (arith, trailer-within (l .before .before .args .cursor .now) (l .loop .len) (omega arith) found)
+loop-less c = omega (arith, ahead c)
 
 loop-again : tie.Need-loop-again Inv-loop μ-loop
-loop-again c =
-    let l = c .before .before .before .before .before in
-    let found = sym (c .before .before .before .trailer-at-start .ensures) ∙ c .before .trailer .given .1 in
-    let s = l .before .before .args .cursor .now in
-    (trailer-within s (l .loop .len) (omega arith) found .1, omega (arith, part-trailer s (l .loop .len) found))
+loop-again c = omega (arith, ahead c)
 
 enum-told : tie.Need-enum-told Inv-loop μ-loop
 enum-told c = search needs
 
 returns : tie.Need-returns Inv-loop μ-loop
 returns c =
-    let l = c .before .before .before .before in
-    let none = sym (c .before .before .trailer-at-start .ensures) ∙ c .enum-told .given .1 in
+    let r = c .before .before in let l = r .before .before in
+    let none = sym (r .trailer-at-start .ensures) ∙ c .enum-told .given .1 in
     omega (arith, part-ends (l .before .before .args .cursor .now) (l .loop .len) none)
 
 pub trailers-len-spec : {M : Type 1} → statement M

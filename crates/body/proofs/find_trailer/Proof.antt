@@ -31,21 +31,25 @@ returns-2 c =
 trailer-block-start-requires : tie.Need-trailer-block-start-requires
 trailer-block-start-requires c κs = search needs
 
+-- the start, from where the block start is known
+abbrev start : tie.After-trailer-block-start → tie.Start
+start b = let asked = b .before .before .before in asked .before .before .before
+
 find-named-requires : tie.Need-find-named-requires
-find-named-requires c κs = omega (arith, start-within (c .before .before .before .before .before .before .args .body .now), c .trailer-block-start .ensures)
+find-named-requires c κs = omega (arith, start-within (start c .args .body .now), c .trailer-block-start .ensures)
 
 enum-known-places : tie.Need-enum-known-places
 enum-known-places c = search needs
 
 -- where the walk has answered, body and name are within the limit, and the walk began at the block start
-short : (n : tie.After-find-named) → ltb limit (length (n .before .before .before .before .before .before .before .args .body .now)) ≡ false
+short : (n : tie.After-find-named) → ltb limit (length (start (n .before) .args .body .now)) ≡ false
 short n = le-ltb limit _ (n .before .before .before .if1 .left)
 
-brief : (n : tie.After-find-named) → ltb limit (length (n .before .before .before .before .before .before .before .args .name .now)) ≡ false
+brief : (n : tie.After-find-named) → ltb limit (length (start (n .before) .args .name .now)) ≡ false
 brief n = le-ltb limit _ (n .before .before .if2 .left)
 
 found : (n : tie.After-find-named) {next : NextTrailer} → n .find-named .result ≡ next →
-    let a = n .before .before .before .before .before .before .before .args in
+    let a = start (n .before) .args in
     lookedUp (lookup (a .name .now) (walkFrom (a .body .now) (blockStart (a .body .now)))) ≡ next
 found n e = rw (n .before .trailer-block-start .ensures) at (sym (n .find-named .ensures) ∙ e)
 
@@ -55,7 +59,7 @@ enum-told c = search needs
 returns-3 : tie.Need-returns-3
 returns-3 c =
     let n = c .before .before in
-    let a = n .before .before .before .before .before .before .before .args in
+    let a = start (n .before) .args in
     let q = found n (c .enum-told .given .1) in (
       find-none (a .body .now) (a .name .now) (short n) (brief n) q (length (a .out .now)),
       find-none-left (a .body .now) (a .name .now) (short n) (brief n) q (a .out .now),
@@ -63,9 +67,8 @@ returns-3 c =
 
 read-trailer-requires : tie.Need-read-trailer-requires
 read-trailer-requires c κs =
-    let t = c .before .before in
-    let n = t .before .before in
-    let a = n .before .before .before .before .before .before .before .args in
+    let t = c .before .before in let n = t .before .before in
+    let a = start (n .before) .args in
     find-fits (a .body .now) (a .name .now) (short n) (brief n) (found n (t .places .given .1))
 
 enum-known-read : tie.Need-enum-known-read
@@ -75,14 +78,12 @@ enum-known-read-2 : tie.Need-enum-known-read-2
 enum-known-read-2 c = search needs
 
 -- what is said of the record of the trailer that was found, and what is left in the buffer
-answered : (r : tie.After-read-trailer) → let t = r .before .before .before in
-    let a = t .before .before .before .before .before .before .before .before .before .args in
+answered : (r : tie.After-read-trailer) → let t = r .before .before .before in let a = start (t .before .before .before) .args in
     (saidOf (λ x. trailerFoundSays (TrailerFound.Trailer x)) (r .read-trailer .result) ≡ findAnswer (a .body .now) (a .name .now) (length (a .out .now)))
     × (r .read-trailer .last .1 .1 .0 ≡ findBuffer (a .body .now) (a .name .now) (a .out .now))
 answered r =
-    let t = r .before .before .before in
-    let n = t .before .before in
-    let a = n .before .before .before .before .before .before .before .args in
+    let t = r .before .before .before in let n = t .before .before in
+    let a = start (n .before) .args in
     let q = found n (t .places .given .1) in (
       find-found (a .body .now) (a .name .now) (short n) (brief n) q (length (a .out .now)) (r .read-trailer .ensures .0),
       find-left (a .body .now) (a .name .now) (short n) (brief n) q (a .out .now) (r .read-trailer .ensures .1),
@@ -93,7 +94,7 @@ same-length c = search needs
 
 returns-4 : tie.Need-returns-4
 returns-4 c =
-    let r = c .before .before .before .before .before in
+    let m = c .before .before in let r = m .before .before .before in
     (ap (saidOf _) (sym (c .before .read .given .1)) ∙ answered r .0, answered r .1)
 
 same-length-2 : tie.Need-same-length-2
@@ -101,7 +102,7 @@ same-length-2 c = search needs
 
 returns-5 : tie.Need-returns-5
 returns-5 c =
-    let r = c .before .before .before .before .before in
+    let m = c .before .before in let r = m .before .before .before in
     (ap (saidOf _) (sym (c .before .read2 .given .1)) ∙ answered r .0, answered r .1)
 
 pub find-trailer-spec : {M : Type 1} → statement M

@@ -19,6 +19,10 @@ returns-3 c = simp (le-ltb _ _ (c .before .before .if1 .left), le-leb _ _ (c .be
 next-block-from-requires : tie.Need-next-block-from-requires
 next-block-from-requires c κs = search needs
 
+-- the start, from where the walk has answered
+abbrev start : tie.After-next-block-from → tie.Start
+start n = let first = n .before .before .before in first .before .before
+
 enum-known-message-end : tie.Need-enum-known-message-end
 enum-known-message-end c = search needs
 
@@ -28,7 +32,7 @@ enum-told c = search needs
 returns-4 : tie.Need-returns-4
 returns-4 c =
     let n = c .before .before in
-    let a = n .before .before .before .before .before .args in
+    let a = start n .args in
     let blocks = blocksFrom (a .body .now) (a .cursor .at) (a .cursor .start) in
     let none = block-ended (a .body .now) (a .cursor .at) blocks (sym (n .next-block-from .ensures) ∙ c .enum-told .given .1) in
     simp (le-ltb _ _ (n .before .before .before .if1 .left), le-leb _ _ (n .before .before .if2 .left), le-leb _ _ (n .before .if3 .left), none)
@@ -36,7 +40,7 @@ returns-4 c =
 returns-5 : tie.Need-returns-5
 returns-5 c =
     let n = c .before .before .before in
-    let a = n .before .before .before .before .before .args in
+    let a = start n .args in
     let blocks = blocksFrom (a .body .now) (a .cursor .at) (a .cursor .start) in
     let first = block-found (a .body .now) (a .cursor .at) blocks (sym (n .next-block-from .ensures) ∙ c .before .message-end .given .1) in
     simp (le-ltb _ _ (n .before .before .before .if1 .left), le-leb _ _ (n .before .before .if2 .left), le-leb _ _ (n .before .if3 .left), first)
