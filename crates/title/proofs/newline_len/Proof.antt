@@ -24,13 +24,15 @@ starts-with-requires-2 c κs = search needs
 returns-2 : tie.Need-returns-2
 unfolding lineEnd
 returns-2 c =
-    let crlf = sym (c .before .before .before .before .starts-with .ensures) ∙ c .before .before .before .if1 .left in
+    let first = c .before .before .before in
+    let crlf = sym (first .before .starts-with .ensures) ∙ first .if1 .left in
     simp (crlf, sym (c .before .starts-with2 .ensures) ∙ c .if2 .taken)
 
 returns-3 : tie.Need-returns-3
 unfolding lineEnd
 returns-3 c =
-    let crlf = sym (c .before .before .before .before .starts-with .ensures) ∙ c .before .before .before .if1 .left in
+    let first = c .before .before .before in
+    let crlf = sym (first .before .starts-with .ensures) ∙ first .if1 .left in
     simp (crlf, sym (c .before .starts-with2 .ensures) ∙ c .if2 .left)
 
 pub newline-len-spec : {M : Type 1} → statement M

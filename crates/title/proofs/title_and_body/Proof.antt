@@ -42,12 +42,13 @@ part-line-len-end c = search needs
 line-len-requires : tie.Need-line-len-requires Inv-loop μ-loop
 line-len-requires c κs = search needs
 
--- a line is ahead
-ahead : (c : tie.After-line-len Inv-loop μ-loop) → let l = c .before .before .before in
-    (0 < c .line-len .result) × (l .loop .at + c .line-len .result ≤ length (l .before .before .args .message .now))
-ahead c =
-    let l = c .before .before .before in
-    line-ahead (l .before .before .args .message .now) (l .loop .at) (c .line-len .result) (omega arith) (c .line-len .ensures)
+-- the message, from where the next line is known; that line is ahead
+abbrev text : tie.After-line-len Inv-loop μ-loop → List ℕ
+text n = let l = n .before .before .before in l .before .before .args .message .now
+
+ahead : (n : tie.After-line-len Inv-loop μ-loop) → let l = n .before .before .before in
+    (0 < n .line-len .result) × (l .loop .at + n .line-len .result ≤ length (text n))
+ahead n = line-ahead (text n) _ (n .line-len .result) (omega arith) (n .line-len .ensures)
 
 add-end : tie.Need-add-end Inv-loop μ-loop
 add-end c = omega (arith, ahead c)
@@ -78,22 +79,19 @@ trim-line-ending-requires c κs = search needs
 
 returns : tie.Need-returns Inv-loop μ-loop
 returns c =
-    let l = c .before .before .before .before .before .before .before .before in
-    let s = l .before .before .args .message .now in
-    let n = c .before .before .before .before .before .line-len in
-    let m = c .before .before .before .newline-len in
+    let m = c .before .before .before in let n = m .before .before in let l = n .before .before .before in
     let some = c .before .before .if1 .taken in
-    let ended = line-ended s (l .loop .at) (n .result) (m .result) (omega arith) (n .ensures) (m .ensures) some in
+    let ended = line-ended (text n) (l .loop .at) _ _ (omega arith) (n .line-len .ensures) (m .newline-len .ensures) some in
     omega (arith, ended, ap length (c .trim-line-ending .ensures))
 
 add-t17 : tie.Need-add-t17 Inv-loop μ-loop
 add-t17 c =
-    let s = c .before .before .before .before .before .before .before .before .before .before .args .message .now in
+    let m = c .before .before .before in let s = text (m .before .before) in
     omega (arith, returns c, title-before-body s, body-fits s)
 
 add-t20 : tie.Need-add-t20 Inv-loop μ-loop
 add-t20 c =
-    let s = c .before .before .before .before .before .before .before .before .before .before .args .message .now in
+    let m = c .before .before .before in let s = text (m .before .before) in
     omega (arith, returns c, title-before-body s, body-fits s)
 
 loop-less : tie.Need-loop-less Inv-loop μ-loop
@@ -101,12 +99,9 @@ loop-less c = omega (arith, ahead (c .before .before .before))
 
 loop-again : tie.Need-loop-again Inv-loop μ-loop
 loop-again c =
-    let l = c .before .before .before .before .before .before in
-    let s = l .before .before .args .message .now in
-    let n = c .before .before .before .line-len in
-    let m = c .before .newline-len in
-    let passed = line-passed s (l .loop .at) (n .result) (m .result) (omega arith) (n .ensures) (m .ensures) (c .if1 .left) in
-    omega (arith, passed, ahead (c .before .before .before))
+    let m = c .before in let n = m .before .before in let l = n .before .before .before in
+    let passed = line-passed (text n) (l .loop .at) _ _ (omega arith) (n .line-len .ensures) (m .newline-len .ensures) (c .if1 .left) in
+    omega (arith, passed, ahead n)
 
 returns-2 : tie.Need-returns-2 Inv-loop μ-loop
 returns-2 c =

@@ -31,9 +31,8 @@ is-gap-byte-requires c κs = search needs
 
 returns : tie.Need-returns Inv-loop μ-loop
 returns c =
-    let l = c .before .before .before .before in
-    let s = l .before .before .args .line .now in
-    let w : false ≡ gapByte (getD s (l .loop .i) 0) = sym (not-true _ (c .if1 .taken)) ∙ c .before .is-gap-byte .ensures in
+    let r = c .before in let l = r .before .before .before in let s = l .before .before .args .line .now in
+    let w : false ≡ gapByte (getD s (l .loop .i) 0) = sym (not-true _ (c .if1 .taken)) ∙ r .is-gap-byte .ensures in
     omega (arith, run-step gapByte s (l .loop .i) false (omega arith) w)
 
 add-i : tie.Need-add-i Inv-loop μ-loop
@@ -44,9 +43,8 @@ loop-less c = search needs
 
 loop-again : tie.Need-loop-again Inv-loop μ-loop
 loop-again c =
-    let l = c .before .before .before .before in
-    let s = l .before .before .args .line .now in
-    let w : true ≡ gapByte (getD s (l .loop .i) 0) = sym (not-false _ (c .if1 .left)) ∙ c .before .is-gap-byte .ensures in
+    let r = c .before in let l = r .before .before .before in let s = l .before .before .args .line .now in
+    let w : true ≡ gapByte (getD s (l .loop .i) 0) = sym (not-false _ (c .if1 .left)) ∙ r .is-gap-byte .ensures in
     omega (arith, run-step gapByte s (l .loop .i) true (omega arith) w)
 
 returns-2 : tie.Need-returns-2 Inv-loop μ-loop

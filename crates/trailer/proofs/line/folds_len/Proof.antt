@@ -45,15 +45,18 @@ part-line-len-end c = search needs
 line-len-requires : tie.Need-line-len-requires Inv-loop μ-loop
 line-len-requires c κs = search needs
 
--- the line ahead is indented, and has bytes
-indents : (c : tie.After-line-len Inv-loop μ-loop) → let l = c .before .before .before .before .before in
+-- the loop's head, from where its line is known; the line ahead is indented, and has bytes
+abbrev head : tie.After-line-len Inv-loop μ-loop → tie.At-loop Inv-loop μ-loop
+head m = let i = m .before .before .before in i .before .before
+
+indents : (c : tie.After-line-len Inv-loop μ-loop) → let l = head c in
     indented (take (length (l .before .before .args .rest .now) - l .loop .len) (drop (l .loop .len) (l .before .before .args .rest .now))) ≡ true
 indents c = sym (c .before .before .before .is-indented .ensures) ∙ c .before .before .if1 .taken
 
-ahead : (c : tie.After-line-len Inv-loop μ-loop) → let l = c .before .before .before .before .before in
+ahead : (c : tie.After-line-len Inv-loop μ-loop) → let l = head c in
     (0 < c .line-len .result) × (l .loop .len + c .line-len .result ≤ length (l .before .before .args .rest .now))
 ahead c =
-    let l = c .before .before .before .before .before in
+    let l = head c in
     let s = l .before .before .args .rest .now in
     line-ahead s (l .loop .len) (c .line-len .result) (folds-ahead s (l .loop .len) (indents c)) (c .line-len .ensures)
 
@@ -75,7 +78,7 @@ is-blank-line-requires c κs = search needs
 returns : tie.Need-returns Inv-loop μ-loop
 returns c =
     let m = c .before .before .before in
-    let l = m .before .before .before .before .before in
+    let l = head m in
     let blank = sym (c .before .is-blank-line .ensures) ∙ c .if2 .taken in
     omega (arith, folds-stop (l .before .before .args .rest .now) (l .loop .len) (m .line-len .result) (indents m) (m .line-len .ensures) blank)
 
@@ -85,7 +88,7 @@ loop-less c = omega (arith, ahead (c .before .before .before))
 loop-again : tie.Need-loop-again Inv-loop μ-loop
 loop-again c =
     let m = c .before .before .before in
-    let l = m .before .before .before .before .before in
+    let l = head m in
     let text = sym (c .before .is-blank-line .ensures) ∙ c .if2 .left in (
       ahead m .1,
       omega (arith, folds-go (l .before .before .args .rest .now) (l .loop .len) (m .line-len .result) (indents m) (m .line-len .ensures) text),

@@ -25,7 +25,7 @@ returns-2 c =
 is-within-requires-3 : tie.Need-is-within-requires-3
 is-within-requires-3 c κs = search needs
 
-no-letter : (c : tie.Else2) → let byte = c .before .before .before .before .args .byte in within 65 90 byte || within 97 122 byte ≡ false
+no-letter : (c : tie.Else2) → let first = c .before .before in let byte = first .before .before .args .byte in within 65 90 byte || within 97 122 byte ≡ false
 no-letter c =
     let first = c .before .before in
     rw (sym (first .before .is-within .ensures) ∙ first .if1 .left, sym (c .before .is-within2 .ensures) ∙ c .if2 .left)

@@ -17,33 +17,28 @@ find-separator-requires c κs = omega (arith, token-within (c .before .before .b
 
 returns-2 : tie.Need-returns-2
 returns-2 c =
-    let t = c .before .before .before .token-end in
-    let g = c .before .find-separator in
-    sym (ends-there _ _ _ (t .ensures) (g .ensures) (c .before .before .if1 .left) (c .if2 .taken))
+    let g = c .before in let t = g .before .before in
+    sym (ends-there _ _ _ (t .token-end .ensures) (g .find-separator .ensures) (g .before .if1 .left) (c .if2 .taken))
 
 shared-slice-read-if3 : tie.Need-shared-slice-read-if3
 shared-slice-read-if3 c =
-    let t = c .before .before .before .before .token-end in
-    let g = c .before .before .find-separator in
-    omega (arith, gap-within _ _ _ (t .ensures) (g .ensures))
+    let g = c .before .before in let t = g .before .before in
+    omega (arith, gap-within _ _ _ (t .token-end .ensures) (g .find-separator .ensures))
 
 returns-3 : tie.Need-returns-3
 returns-3 c =
-    let t = c .before .before .before .before .before .token-end in
-    let g = c .before .before .before .find-separator in
-    sym (other-there _ _ _ (t .ensures) (g .ensures) (c .before .before .before .before .if1 .left) (c .before .before .if2 .left) (c .if3 .taken))
+    let g = c .before .before .before in let t = g .before .before in
+    sym (other-there _ _ _ (t .token-end .ensures) (g .find-separator .ensures) (g .before .if1 .left) (c .before .before .if2 .left) (c .if3 .taken))
 
 add-value-start : tie.Need-add-value-start
 add-value-start c =
-    let t = c .before .before .before .before .before .token-end in
-    let g = c .before .before .before .find-separator in
-    omega (arith, gap-within _ _ _ (t .ensures) (g .ensures))
+    let g = c .before .before .before in let t = g .before .before in
+    omega (arith, gap-within _ _ _ (t .token-end .ensures) (g .find-separator .ensures))
 
 returns-4 : tie.Need-returns-4
 returns-4 c =
-    let t = c .before .before .before .before .before .token-end in
-    let g = c .before .before .before .find-separator in
-    sym (colon-there _ _ _ (t .ensures) (g .ensures) (c .before .before .before .before .if1 .left) (c .before .before .if2 .left) (c .if3 .left))
+    let g = c .before .before .before in let t = g .before .before in
+    sym (colon-there _ _ _ (t .token-end .ensures) (g .find-separator .ensures) (g .before .if1 .left) (c .before .before .if2 .left) (c .if3 .left))
 
 pub parse-trailer-line-spec : {M : Type 1} → statement M
 parse-trailer-line-spec =

@@ -32,9 +32,8 @@ is-token-byte-requires c κs = search needs
 returns : tie.Need-returns Inv-loop μ-loop
 unfolding tokenIn
 returns c =
-    let l = c .before .before .before .before in
-    let s = l .before .before .args .line .now in
-    let w : false ≡ tokenByte (getD s (l .loop .i) 0) = sym (not-true _ (c .if1 .taken)) ∙ c .before .is-token-byte .ensures in
+    let r = c .before in let l = r .before .before .before in let s = l .before .before .args .line .now in
+    let w : false ≡ tokenByte (getD s (l .loop .i) 0) = sym (not-true _ (c .if1 .taken)) ∙ r .is-token-byte .ensures in
     omega (arith, run-step tokenByte s (l .loop .i) false (omega arith) w)
 
 add-i : tie.Need-add-i Inv-loop μ-loop
@@ -45,9 +44,8 @@ loop-less c = search needs
 
 loop-again : tie.Need-loop-again Inv-loop μ-loop
 loop-again c =
-    let l = c .before .before .before .before in
-    let s = l .before .before .args .line .now in
-    let w : true ≡ tokenByte (getD s (l .loop .i) 0) = sym (not-false _ (c .if1 .left)) ∙ c .before .is-token-byte .ensures in
+    let r = c .before in let l = r .before .before .before in let s = l .before .before .args .line .now in
+    let w : true ≡ tokenByte (getD s (l .loop .i) 0) = sym (not-false _ (c .if1 .left)) ∙ r .is-token-byte .ensures in
     omega (arith, run-step tokenByte s (l .loop .i) true (omega arith) w)
 
 returns-2 : tie.Need-returns-2 Inv-loop μ-loop

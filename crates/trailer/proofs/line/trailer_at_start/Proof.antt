@@ -22,11 +22,15 @@ returns c = sym (no-trailer-there _ (sym (c .before .before .parse-trailer-line 
 line-len-requires : tie.Need-line-len-requires
 line-len-requires c κs = search needs
 
+-- the start, from where the line is known to be a trailer's
+abbrev start : tie.After-line-len → tie.Start
+start n = let t = n .before .before in let r = t .before .before in r .before .before
+
 sub-folds-len : tie.Need-sub-folds-len
-sub-folds-len c = omega (arith, c .line-len .ensures, first-within (c .before .before .before .before .before .before .args .cursor .now))
+sub-folds-len c = omega (arith, c .line-len .ensures, first-within (start c .args .cursor .now))
 
 part-folds-len-start : tie.Need-part-folds-len-start
-part-folds-len-start c = omega (arith, c .line-len .ensures, first-within (c .before .before .before .before .before .before .args .cursor .now))
+part-folds-len-start c = omega (arith, c .line-len .ensures, first-within (start c .args .cursor .now))
 
 part-folds-len-end : tie.Need-part-folds-len-end
 part-folds-len-end c = search needs
@@ -36,14 +40,14 @@ folds-len-requires c κs = search needs
 
 add-len : tie.Need-add-len
 add-len c =
-    let s = c .before .before .before .before .before .before .before .before .args .cursor .now in
-    omega (arith, length-within s _ _ (c .before .before .line-len .ensures) (c .folds-len .ensures))
+    let n = c .before .before in
+    omega (arith, length-within (start n .args .cursor .now) _ _ (n .line-len .ensures) (c .folds-len .ensures))
 
 returns-2 : tie.Need-returns-2
 returns-2 c =
-    let line = c .before .before .before .before in
-    let there = sym (line .before .before .parse-trailer-line .ensures) ∙ line .token-end .given .1 in
-    sym (trailer-there _ _ there (c .before .before .line-len .ensures) ∙ rw (← c .folds-len .ensures))
+    let n = c .before .before in let t = n .before .before in
+    let there = sym (t .before .before .parse-trailer-line .ensures) ∙ t .token-end .given .1 in
+    sym (trailer-there _ _ there (n .line-len .ensures) ∙ rw (← c .folds-len .ensures))
 
 pub trailer-at-start-spec : {M : Type 1} → statement M
 trailer-at-start-spec =

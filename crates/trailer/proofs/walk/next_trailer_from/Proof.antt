@@ -40,17 +40,21 @@ trailer-at-start-requires c κs = search needs
 enum-known-token-end : tie.Need-enum-known-token-end Inv-loop μ-loop
 enum-known-token-end c = search needs
 
+-- the loop's head, from where its line is read
+abbrev head : tie.After-trailer-at-start Inv-loop μ-loop → tie.At-loop Inv-loop μ-loop
+head r = r .before .before .before
+
 -- the trailer that was found, and its places
-found : (c : tie.After-known-told Inv-loop μ-loop) → let l = c .before .before .before .before .before .before in
+found : (c : tie.After-known-told Inv-loop μ-loop) → let l = head (c .before .before .before) in
     atStart (lines (take (length (l .before .before .args .body .now) - l .loop .start) (drop (l .loop .start) (l .before .before .args .body .now))))
     ≡ TrailerAtStart.Trailer (c .before .token-end .given .0 .0) (c .before .token-end .given .0 .1 .0) (c .before .token-end .given .0 .1 .1 .0)
 found c = sym (c .before .before .before .trailer-at-start .ensures) ∙ c .before .token-end .given .1
 
-places : (c : tie.After-known-told Inv-loop μ-loop) → let l = c .before .before .before .before .before .before in
+places : (c : tie.After-known-told Inv-loop μ-loop) → let l = head (c .before .before .before) in
     let t = c .before .token-end .given .0 in
     (t .0 < t .1 .0) × (t .1 .0 ≤ t .1 .1 .0) × (l .loop .start + t .1 .1 .0 ≤ length (l .before .before .args .body .now))
 places c =
-    let l = c .before .before .before .before .before .before in
+    let l = head (c .before .before .before) in
     found-within (l .before .before .args .body .now) (l .loop .start) (omega arith) (found c)
 
 add-t13 : tie.Need-add-t13 Inv-loop μ-loop
@@ -64,7 +68,7 @@ add-t15 c = omega (arith, places c)
 
 returns : tie.Need-returns Inv-loop μ-loop
 returns c =
-    let l = c .before .before .before .before .before .before in
+    let l = head (c .before .before .before) in
     sym (l .loop .inv .1 ∙ next-found (l .before .before .args .body .now) (l .loop .start) (omega arith) (found c))
 
 enum-told : tie.Need-enum-told Inv-loop μ-loop
@@ -83,10 +87,10 @@ line-len-requires : tie.Need-line-len-requires Inv-loop μ-loop
 line-len-requires c κs = search needs
 
 -- a line is ahead
-ahead : (c : tie.After-line-len Inv-loop μ-loop) → let l = c .before .before .before .before .before .before .before in
+ahead : (c : tie.After-line-len Inv-loop μ-loop) → let none = c .before .before in let l = head (none .before .before) in
     (0 < c .line-len .result) × (l .loop .start + c .line-len .result ≤ length (l .before .before .args .body .now))
 ahead c =
-    let l = c .before .before .before .before .before .before .before in
+    let none = c .before .before in let l = head (none .before .before) in
     line-ahead (l .before .before .args .body .now) (l .loop .start) (c .line-len .result) (omega arith) (c .line-len .ensures)
 
 add-start : tie.Need-add-start Inv-loop μ-loop
@@ -97,12 +101,11 @@ loop-less c = omega (arith, ahead c)
 
 loop-again : tie.Need-loop-again Inv-loop μ-loop
 loop-again c =
-    let l = c .before .before .before .before .before .before .before in
+    let none = c .before .before in let r = none .before .before in let l = head r in
     let s = l .before .before .args .body .now in
-    let e = c .line-len .ensures in
-    let none = sym (c .before .before .before .before .trailer-at-start .ensures) ∙ c .before .before .enum-told .given .1 in (
+    let told = sym (r .trailer-at-start .ensures) ∙ none .enum-told .given .1 in (
       ahead c .1,
-      l .loop .inv .1 ∙ next-skips s (l .loop .start) (omega arith) _ none e,
+      l .loop .inv .1 ∙ next-skips s (l .loop .start) (omega arith) _ told (c .line-len .ensures),
     )
 
 returns-2 : tie.Need-returns-2 Inv-loop μ-loop
