@@ -1,7 +1,7 @@
 -- The next cursor that an answer of the trailer step holds is where the cursor then stands; a refusal leaves it where it was.
 -- Assumes nothing.
 use mathlib.Core.List.{List, [], _∷_}
-use mathlib.Core.Path.{_≡_, refl, sym, ap, _∙_}
+use mathlib.Core.Path.{_≡_, refl, ap, _∙_}
 use Prim.Native.Nat.{ℕ}
 use Rattle.body.proofs.Calls.{step-is}
 use Rattle.body.specs.Body.{firstStep, stepAnswer}

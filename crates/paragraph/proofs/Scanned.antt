@@ -11,7 +11,6 @@ use native.Mathlib.Omega.{arith}
 use lib.Dec.{T, T-not, not-T, eqb}
 use lib.ListN.{length, take, length-append}
 use lib.Seq.{take-append-seam}
-use Rattle.rules.specs.Bytes.{bytes}
 use Rattle.rules.specs.Lines.{Line, lines, text, blank, indented, folds}
 use Rattle.rules.specs.Lists.{if_then_else_, All, filled, join, starts}
 use Rattle.rules.specs.Paragraph.{cherryPicked, signedOff, recognised, leads, Group, Grouped, grouped, groupedLines, leadCount, otherCount, anyRecognised}

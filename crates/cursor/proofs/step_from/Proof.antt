@@ -20,16 +20,18 @@ enum-told : tie.Need-enum-told
 enum-told c = search needs
 
 -- where the step leaves the cursor
-left : (n : tie.After-next-trailer) → let a = n .before .before .before .before .args in
+left : (n : tie.After-next-trailer) → let lent = n .before in let a = lent .before .before .before .args in
     nextAt (a .at) (n .next-trailer .result) ≡ cursorLeft (a .body .now) (a .at) (length (a .out .now))
-left n = let a = n .before .before .before .before .args in moved (a .body .now) (a .at) (length (a .out .now)) (n .next-trailer .result) (n .next-trailer .ensures .0)
+left n =
+    let lent = n .before in let a = lent .before .before .before .args in
+    moved (a .body .now) (a .at) (length (a .out .now)) (n .next-trailer .result) (n .next-trailer .ensures .0)
 
 same-length : tie.Need-same-length
 same-length c = search needs
 
 returns : tie.Need-returns
 returns c =
-    let n = c .before .before .before .before .before in
+    let m = c .before .before in let n = m .before .before .before in
     let g = c .before .step .given .1 in
     (rw g at (n .next-trailer .ensures .0), (ap (nextAt _) (sym g) ∙ left n, n .next-trailer .ensures .1))
 
@@ -38,7 +40,7 @@ same-length-2 c = search needs
 
 returns-2 : tie.Need-returns-2
 returns-2 c =
-    let n = c .before .before .before .before .before in
+    let m = c .before .before in let n = m .before .before .before in
     let g = c .before .step2 .given .1 in
     (rw g at (n .next-trailer .ensures .0), (ap (nextAt _) (sym g) ∙ left n, n .next-trailer .ensures .1))
 
@@ -47,7 +49,7 @@ same-length-3 c = search needs
 
 returns-3 : tie.Need-returns-3
 returns-3 c =
-    let n = c .before .before .before .before in
+    let m = c .before in let n = m .before .before .before in
     (n .next-trailer .ensures .0, (ap (nextAt _) (sym (c .enum-told .given .1)) ∙ left n, n .next-trailer .ensures .1))
 
 pub step-from-spec : {M : Type 1} → statement M

@@ -32,8 +32,7 @@ enum-told c = search needs
 
 returns : tie.Need-returns Inv-loop μ-loop
 returns c =
-    let l = c .before .before .before in
-    let a = l .before .before .before .args in
+    let l = c .before .before .before in let a = l .before .before .before .args in
     let none = sym (c .before .before .next-trailer-from .ensures) ∙ c .enum-told .given .1 in
     none-wanted (a .wanted) (a .name .now) (walkFrom (a .body .now) (l .loop .from)) none ∙ l .loop .inv .1
 
@@ -56,16 +55,16 @@ is-wanted-requires c κs = search needs
 
 returns-2 : tie.Need-returns-2 Inv-loop μ-loop
 returns-2 c =
-    let f = c .before .before .before .before in
-    here f .kept (sym (c .before .is-wanted .ensures) ∙ c .if1 .taken) ∙ f .before .before .before .loop .inv .1
+    let w = c .before in let f = w .before .before .before in
+    here f .kept (sym (w .is-wanted .ensures) ∙ c .if1 .taken) ∙ f .before .before .before .loop .inv .1
 
 loop-less : tie.Need-loop-less Inv-loop μ-loop
-loop-less c = omega (arith, here (c .before .before .before .before) .order)
+loop-less c = let w = c .before in omega (arith, here (w .before .before .before) .order)
 
 loop-again : tie.Need-loop-again Inv-loop μ-loop
 loop-again c =
-    let f = c .before .before .before .before in
-    (here f .order .3, here f .passed (sym (c .before .is-wanted .ensures) ∙ c .if1 .left) ∙ f .before .before .before .loop .inv .1)
+    let w = c .before in let f = w .before .before .before in
+    (here f .order .3, here f .passed (sym (w .is-wanted .ensures) ∙ c .if1 .left) ∙ f .before .before .before .loop .inv .1)
 
 pub next-wanted-spec : {M : Type 1} → statement M
 next-wanted-spec =

@@ -41,34 +41,33 @@ is-blank-line-requires c κs = search needs
 
 returns : tie.Need-returns Inv-loop μ-loop
 returns c =
-    let l = c .before .before .before .before in
-    sym (at-paragraph _ _ _ (l .line-start .ensures) (search needs) _ (l .before .before .loop .inv)
-    (sym (c .before .if1 .taken) ∙ c .before .before .is-blank-line .ensures) (c .if2 .taken))
+    let r = c .before .before in let s = r .before .before in
+    sym (at-paragraph _ _ _ (s .line-start .ensures) (search needs) _ (s .before .before .loop .inv)
+    (sym (c .before .if1 .taken) ∙ r .is-blank-line .ensures) (c .if2 .taken))
 
 scan-line-requires : tie.Need-scan-line-requires Inv-loop μ-loop
 scan-line-requires c κs =
-    let l = c .before .before .before .before .before in
-    let start = l .before .before in
+    let s = c .before .before .before in let l = s .before .before in let start = l .before .before in
     let rest = drop (l .loop .end) (start .args .body .now) in
     omega (arith, ap weight (l .loop .inv .seen), counted-within rest, length-drop (l .loop .end) (start .args .body .now), start .good)
 
 loop-less : tie.Need-loop-less Inv-loop μ-loop
-loop-less c = start-before _ _ _ (c .before .before .before .before .line-start .ensures) (search needs)
+loop-less c = let r = c .before .before in start-before _ _ _ (r .before .before .line-start .ensures) (search needs)
 
 loop-again : tie.Need-loop-again Inv-loop μ-loop
 loop-again c =
-    let l = c .before .before .before .before in
-    at-blank _ _ _ (l .line-start .ensures) (search needs) _ (l .before .before .loop .inv)
-    (sym (c .before .if1 .taken) ∙ c .before .before .is-blank-line .ensures) (c .if2 .left)
+    let r = c .before .before in let s = r .before .before in
+    at-blank _ _ _ (s .line-start .ensures) (search needs) _ (s .before .before .loop .inv)
+    (sym (c .before .if1 .taken) ∙ r .is-blank-line .ensures) (c .if2 .left)
 
 loop-less-2 : tie.Need-loop-less-2 Inv-loop μ-loop
-loop-less-2 c = start-before _ _ _ (c .before .before .before .before .line-start .ensures) (search needs)
+loop-less-2 c = let r = c .before .before in start-before _ _ _ (r .before .before .line-start .ensures) (search needs)
 
 loop-again-2 : tie.Need-loop-again-2 Inv-loop μ-loop
 loop-again-2 c =
-    let l = c .before .before .before .before in
-    at-solid _ _ _ (l .line-start .ensures) (search needs) _ (l .before .before .loop .inv) _
-    (sym (c .before .if1 .left) ∙ c .before .before .is-blank-line .ensures) (c .scan-line .ensures)
+    let r = c .before .before in let s = r .before .before in
+    at-solid _ _ _ (s .line-start .ensures) (search needs) _ (s .before .before .loop .inv) _
+    (sym (c .before .if1 .left) ∙ r .is-blank-line .ensures) (c .scan-line .ensures)
 
 returns-2 : tie.Need-returns-2 Inv-loop μ-loop
 returns-2 c =

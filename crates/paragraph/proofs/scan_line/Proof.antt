@@ -43,9 +43,8 @@ add-scan-3 c = search needs
 returns-3 : tie.Need-returns-3
 unfolding leads
 returns-3 c =
-    let p = c .before .before .before .before .before in
-    let none = told _ _ _ (p .parse-trailer-line .ensures) (c .before .before .before .enum-told2 .given .1) in
-    let i = c .before in
+    let i = c .before in let n = i .before .before in let p = n .before .before in
+    let none = told _ _ _ (p .parse-trailer-line .ensures) (n .enum-told2 .given .1) in
     rw (← p .before .before .is-recognized-prefix .ensures, p .before .if1 .left, none, ← i .before .is-indented .ensures, i .if2 .taken)
 
 add-scan-4 : tie.Need-add-scan-4
@@ -57,9 +56,8 @@ add-scan-5 c = search needs
 returns-4 : tie.Need-returns-4
 unfolding leads
 returns-4 c =
-    let p = c .before .before .before .before .before .before in
-    let none = told _ _ _ (p .parse-trailer-line .ensures) (c .before .before .before .before .enum-told2 .given .1) in
-    let i = c .before .before in
+    let i = c .before .before in let n = i .before .before in let p = n .before .before in
+    let none = told _ _ _ (p .parse-trailer-line .ensures) (n .enum-told2 .given .1) in
     rw (← p .before .before .is-recognized-prefix .ensures, p .before .if1 .left, none, ← i .before .is-indented .ensures, i .if2 .left)
 
 pub scan-line-spec : {M : Type 1} → statement M

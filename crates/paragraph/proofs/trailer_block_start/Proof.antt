@@ -23,19 +23,19 @@ accepts-as-trailer-block-requires c κs =
 
 returns : tie.Need-returns
 returns c =
-    let q = c .before .before .before .before in
-    let no = sym (not-true _ (c .if1 .taken)) ∙ c .before .accepts-as-trailer-block .ensures in
+    let r = c .before in let q = r .before .before .before in
+    let no = sym (not-true _ (c .if1 .taken)) ∙ r .accepts-as-trailer-block .ensures in
     sym (start-decided _ _ false (q .last-paragraph .ensures) no)
 
 end-above-requires : tie.Need-end-above-requires
 end-above-requires c κs =
-    let q = c .before .before .before .before in
+    let r = c .before in let q = r .before .before .before in
     paragraph-within (q .before .before .args .body .now) _ (q .last-paragraph .ensures) .0
 
 returns-2 : tie.Need-returns-2
 returns-2 c =
-    let q = c .before .before .before .before .before in
-    let yes = sym (not-false _ (c .before .if1 .left)) ∙ c .before .before .accepts-as-trailer-block .ensures in
+    let r = c .before .before in let q = r .before .before .before in
+    let yes = sym (not-false _ (c .before .if1 .left)) ∙ r .accepts-as-trailer-block .ensures in
     c .end-above .ensures ∙ sym (start-decided _ _ true (q .last-paragraph .ensures) yes)
 
 pub trailer-block-start-spec : {M : Type 1} → statement M

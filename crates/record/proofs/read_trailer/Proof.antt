@@ -21,14 +21,14 @@ same-length : tie.Need-same-length
 same-length c = search needs
 
 -- the answer that was read of the value is that of the raw value
-record-is : (r : tie.After-read-value) → let a = r .before .before .before .before .args in
+record-is : (r : tie.After-read-value) → let lent = r .before in let a = lent .before .before .before .args in
     withValue (a .at) (r .read-value .result)
     ≡ trailerRead (a .at) (take (a .at .end - a .at .«value_start») (drop (a .at .«value_start») (a .body .now))) (length (a .out .now))
 record-is r = ap (withValue _) (r .read-value .ensures .0) ∙ with-value _ _ _
 
 returns : tie.Need-returns
 returns c =
-    let r = c .before .before .before .before .before in
+    let m = c .before .before in let r = m .before .before .before in
     (ap (withValue _) (sym (c .before .read .given .1)) ∙ record-is r, r .read-value .ensures .1)
 
 same-length-2 : tie.Need-same-length-2
@@ -36,7 +36,7 @@ same-length-2 c = search needs
 
 returns-2 : tie.Need-returns-2
 returns-2 c =
-    let r = c .before .before .before .before .before in
+    let m = c .before .before in let r = m .before .before .before in
     (ap (withValue _) (sym (c .before .read2 .given .1)) ∙ record-is r, r .read-value .ensures .1)
 
 pub read-trailer-spec : {M : Type 1} → statement M
