@@ -52,7 +52,7 @@ walks b =
     walk-at (t .before .before .before .args .message .now) _ _ (t .title-and-body .ensures .1) (b .trailer-block-start .ensures)
 
 add-at : tie.Need-add-at
-add-at c = omega (arith, walks c, walk-fits (c .before .before .before .before .before .args .message .now))
+add-at c = let t = c .before .before in omega (arith, walks c, walk-fits (t .before .before .before .args .message .now))
 
 returns-2 : tie.Need-returns-2
 returns-2 c = simp (le-ltb _ _ (c .before .before .before .if1 .left), walks c)

@@ -17,6 +17,10 @@ returns c = let k = lt-ltb limit _ (c .if1 .taken) in (rw k, rw k)
 trim-requires : tie.Need-trim-requires
 trim-requires c κs = search needs
 
+-- the start, from where the title is trimmed
+abbrev start : tie.After-trim → tie.Start
+start t = let fits = t .before in fits .before .before .before
+
 sub-message : tie.Need-sub-message
 sub-message c = search needs
 
@@ -24,7 +28,7 @@ part-message-start : tie.Need-part-message-start
 part-message-start c = search needs
 
 part-message-end : tie.Need-part-message-end
-part-message-end c = omega (arith, trim-fits (c .before .before .before .before .args .title .now), c .trim .ensures)
+part-message-end c = omega (arith, trim-fits (start c .args .title .now), c .trim .ensures)
 
 is-written-requires : tie.Need-is-written-requires
 is-written-requires c κs = search needs
@@ -37,21 +41,23 @@ same-length c = search needs
 
 returns-2 : tie.Need-returns-2
 returns-2 c =
-    let title = c .before .before .before .before .before .before .before .before .before .before .before .args .title .now in
-    let out = c .before .before .before .before .before .before .before .before .before .before .before .args .out .now in
-    let short = le-ltb limit _ (c .before .before .before .before .before .before .before .before .if1 .left) in
-    let kept = kept-part title (c .before .before .before .before .before .before .before .trim .ensures) in
-    let q = sym (c .before .before .before .before .before .is-written .ensures) ∙ c .before .before .before .before .if2 .taken in (
-      ap valueFoundSays (c .before .before .summarise .ensures .0) ∙ summary-folded title short kept q (length out),
-      c .before .before .summarise .ensures .1 ∙ summary-left title short kept q out,
+    let r = c .before .before in let folded = r .before .before in let t = folded .before .before .before in
+    let title = start t .args .title .now in
+    let out = start t .args .out .now in
+    let short = le-ltb limit _ (t .before .if1 .left) in
+    let kept = kept-part title (t .trim .ensures) in
+    let q = sym (folded .before .is-written .ensures) ∙ folded .if2 .taken in (
+      ap valueFoundSays (r .summarise .ensures .0) ∙ summary-folded title short kept q (length out),
+      r .summarise .ensures .1 ∙ summary-left title short kept q out,
     )
 
 returns-3 : tie.Need-returns-3
 returns-3 c =
-    let title = c .before .before .before .before .before .before .before .args .title .now in
-    let out = c .before .before .before .before .before .before .before .args .out .now in
-    let short = le-ltb limit _ (c .before .before .before .before .if1 .left) in
-    let part = c .before .before .before .trim .ensures in
+    let t = c .before .before .before in
+    let title = start t .args .title .now in
+    let out = start t .args .out .now in
+    let short = le-ltb limit _ (t .before .if1 .left) in
+    let part = t .trim .ensures in
     let kept = kept-part title part in
     let q = sym (c .before .is-written .ensures) ∙ c .if2 .left in
     (rw (part .0, part .1) (summary-part title short kept q (length out)), summary-keeps title short kept q out)

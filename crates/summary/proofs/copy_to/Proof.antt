@@ -14,12 +14,12 @@ sub-room c = search needs
 
 slice-aggregate-copy-at : tie.Need-slice-aggregate-copy-at
 slice-aggregate-copy-at c =
-    let a = c .before .before .before .before .args in
+    let cut = c .before in let a = cut .before .before .before .args in
     sym (length-take-le (a .end - a .at) (a .src .now) (omega arith))
 
 copy-at-requires : tie.Need-copy-at-requires
 copy-at-requires c κs =
-    let a = c .before .before .before .before .before .args in
+    let cut = c .before .before in let a = cut .before .before .before .args in
     omega (arith, length-take-le (a .end - a .at) (a .src .now) (omega arith))
 
 same-length : tie.Need-same-length
@@ -27,10 +27,11 @@ same-length c = search needs
 
 returns : tie.Need-returns
 returns c =
-    let a = c .before .before .before .before .before .before .before .before .args in
+    let r = c .before .before in let cut = r .before .before .before in
+    let a = cut .before .before .before .args in
     let some = take (a .end - a .at) (a .src .now) in (
       omega (arith, length-take-le (a .end - a .at) (a .src .now) (omega arith)),
-      c .before .before .copy-at .ensures ∙ put-all (a .out .now) some (a .at),
+      r .copy-at .ensures ∙ put-all (a .out .now) some (a .at),
     )
 
 copy-at-requires-2 : tie.Need-copy-at-requires-2
@@ -44,9 +45,9 @@ same-length-2 c = search needs
 
 returns-2 : tie.Need-returns-2
 returns-2 c =
-    let a = c .before .before .before .before .before .before .before .args in
+    let r = c .before .before in let fits = r .before .before in let a = fits .before .before .before .args in
     rw (take-all (a .end - a .at) (a .src .now) (omega arith))
-    (omega arith, c .before .before .copy-at2 .ensures ∙ put-all (a .out .now) (a .src .now) (a .at))
+    (omega arith, r .copy-at2 .ensures ∙ put-all (a .out .now) (a .src .now) (a .at))
 
 pub copy-to-spec : {M : Type 1} → statement M
 copy-to-spec =

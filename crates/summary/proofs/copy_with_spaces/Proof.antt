@@ -60,8 +60,8 @@ same-length c = search needs
 
 returns : tie.Need-returns Inv-loop μ-loop
 returns c =
-    let a = c .before .before .before .before .args in
-    c .before .loop .inv .2 ∙ done (a .out .now) (a .message .now) (c .before .loop .i) (omega arith)
+    let l = c .before in let a = l .before .before .before .args in
+    l .loop .inv .2 ∙ done (a .out .now) (a .message .now) (l .loop .i) (omega arith)
 
 pub copy-with-spaces-spec : {M : Type 1} → statement M
 copy-with-spaces-spec =

@@ -29,8 +29,8 @@ trim-blanks-requires c κs = search needs
 
 slice-aggregate-copy-to : tie.Need-slice-aggregate-copy-to
 slice-aggregate-copy-to c =
-    let p = c .before .before .before .before .args .piece .now in
-    sym (length-take-le (c .before .trim-blanks .result) p (omega (arith, length-dropBlanks p)))
+    let t = c .before in let p = t .before .before .before .args .piece .now in
+    sym (length-take-le (t .trim-blanks .result) p (omega (arith, length-dropBlanks p)))
 
 copy-to-requires : tie.Need-copy-to-requires
 copy-to-requires c κs = search needs
@@ -40,9 +40,10 @@ same-length c = search needs
 
 returns : tie.Need-returns
 returns c =
-    let blanks = c .before .before .before .before .before .before .trim-blanks in
-    let copied = c .before .before .before .copy-to in
-    let a = c .before .before .before .before .before .before .before .before .before .args in
+    let r = c .before .before .before in let t = r .before .before .before in
+    let blanks = t .trim-blanks in
+    let copied = r .copy-to in
+    let a = t .before .before .before .args in
     let p = a .piece .now in
     let front : take (blanks .result) p ≡ dropBlanks p = front-stays p (blanks .result) (blanks .ensures) in
     let got = rw front at (copied .ensures) in
@@ -51,24 +52,25 @@ returns c =
 
 slice-write-out : tie.Need-slice-write-out
 slice-write-out c =
-    let blanks = c .before .before .before .before .before .before .trim-blanks in
-    let a = c .before .before .before .before .before .before .before .before .before .args in
-    omega (arith, length-take-room (a .end - a .at) (take (blanks .result) (a .piece .now)))
+    let r = c .before .before .before in let t = r .before .before .before in
+    let a = t .before .before .before .args in
+    omega (arith, length-take-room (a .end - a .at) (take (t .trim-blanks .result) (a .piece .now)))
 
 add-result : tie.Need-add-result
 add-result c =
-    let blanks = c .before .before .before .before .before .before .trim-blanks in
-    let a = c .before .before .before .before .before .before .before .before .before .args in
-    omega (arith, length-take-room (a .end - a .at) (take (blanks .result) (a .piece .now)))
+    let r = c .before .before .before in let t = r .before .before .before in
+    let a = t .before .before .before .args in
+    omega (arith, length-take-room (a .end - a .at) (take (t .trim-blanks .result) (a .piece .now)))
 
 same-length-2 : tie.Need-same-length-2
 same-length-2 c = search needs
 
 returns-2 : tie.Need-returns-2
 returns-2 c =
-    let blanks = c .before .before .before .before .before .before .trim-blanks in
-    let copied = c .before .before .before .copy-to in
-    let a = c .before .before .before .before .before .before .before .before .before .args in
+    let r = c .before .before .before in let t = r .before .before .before in
+    let blanks = t .trim-blanks in
+    let copied = r .copy-to in
+    let a = t .before .before .before .args in
     let p = a .piece .now in
     let k : ℕ = a .end - a .at in
     let front : take (blanks .result) p ≡ dropBlanks p = front-stays p (blanks .result) (blanks .ensures) in

@@ -21,9 +21,10 @@ same-length c = search needs
 
 returns-2 : tie.Need-returns-2
 returns-2 c =
-    let e = c .before .before .before .before .before .summary-len .ensures in
-    let k = le-ltb _ _ (rw e at (c .before .before .before .before .if1 .left)) in
-    (rw (k, e), rw k (c .before .before .write-summary .ensures))
+    let r = c .before .before in let fits = r .before .before in
+    let e = fits .before .summary-len .ensures in
+    let k = le-ltb _ _ (rw e at (fits .if1 .left)) in
+    (rw (k, e), rw k (r .write-summary .ensures))
 
 pub summarise-spec : {M : Type 1} → statement M
 summarise-spec =

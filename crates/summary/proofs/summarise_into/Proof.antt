@@ -51,14 +51,18 @@ over : (s : List ℕ) (at pos k : ℕ) → pos ≡ at + length (run inner (drop 
     take k (take (length s - at) (drop at s)) ≡ left s at k
 over s at pos k e h = rw (rest s at, last-piece-at s at pos e h, total-last (drop at s))
 
+-- `out` with `len` bytes written, the pieces before `at`: as many are left as are missing, and with them it is as promised
+record Begun (message out₀ : List ℕ) (n : ℕ) (out : List ℕ) (len at : ℕ) : Type 0 where
+  missing : length (left message at (n - len)) ≡ n - len
+  promised : put out len (left message at (n - len)) ≡ spaced (pieces message) ++ drop (length (spaced (pieces message))) out₀
+
 abbrev Inv-loop : tie.InvT-loop
 Inv-loop message out₀ n len₀ at₀ pos₀ out len at pos =
     (pos ≡ at + length (run inner (drop at message)))
     × (at ≤ length message)
     × (len ≤ n)
     × (length out ≡ length out₀)
-    × (length (left message at (n - len)) ≡ n - len)
-    × (put out len (left message at (n - len)) ≡ spaced (pieces message) ++ drop (length (spaced (pieces message))) out₀)
+    × Begun message out₀ n out len at
 
 abbrev μ-loop : tie.MeasureT-loop
 μ-loop message out₀ n len₀ at₀ pos₀ out len at pos = length message - at
@@ -70,16 +74,16 @@ loop-holds : tie.Need-loop-holds Inv-loop μ-loop
 loop-holds c =
     let a = c .before .before .before .args in
     let e : left (a .message .now) 0 (a .n - 0) ≡ spaced (pieces (a .message .now)) = start (a .message .now) (a .n) (omega arith) in
-    (search needs, search needs, search needs, refl, omega (arith, ap length e), rw (e, zero-add))
+    (search needs, search needs, search needs, refl, record { missing = omega (arith, ap length e); promised = rw (e, zero-add) })
 
 same-length : tie.Need-same-length Inv-loop μ-loop
 same-length c = search needs
 
 returns : tie.Need-returns Inv-loop μ-loop
 returns c =
-    let l = c .before .before in
-    let z : l .before .before .before .before .args .n - l .loop .len ≡ 0 = omega arith in
-    sym (put-none (l .loop .out) (l .loop .len)) ∙ (rw z at (l .loop .inv .5))
+    let l = c .before .before in let f = l .before in
+    let z : f .before .before .before .args .n - l .loop .len ≡ 0 = omega arith in
+    sym (put-none (l .loop .out) (l .loop .len)) ∙ (rw z at (l .loop .inv .4 .promised))
 
 sub-fold-to : tie.Need-sub-fold-to Inv-loop μ-loop
 sub-fold-to c = search needs
@@ -104,23 +108,22 @@ loop-less c = search needs
 
 loop-again : tie.Need-loop-again Inv-loop μ-loop
 loop-again c =
-    let l = c .before .before .before .before .before .before .before .before in
-    let a = l .before .before .before .before .args in
+    let r = c .before .before .before in let more = r .before .before .before in
+    let l = more .before .before in let f = l .before in let a = f .before .before .before .args in
     let s = a .message .now in
     let len = l .loop .len in
     let k : ℕ = a .n - len in
-    let got = c .before .before .before .fold-to .ensures in
+    let got = r .fold-to .ensures in
     let n : ℕ = length (take k (folded (piece s (l .loop .at) (l .loop .pos)))) in
     let both =
-    turn s (l .loop .at) (l .loop .pos) k (l .loop .inv .0) (omega arith) (l .loop .inv .4)
+    turn s (l .loop .at) (l .loop .pos) k (l .loop .inv .0) (omega arith) (l .loop .inv .4 .missing)
     (l .loop .out) len n (omega arith) (omega arith) refl in
-    let r : a .n - c .before .before .before .fold-to .result ≡ k - n = omega arith in (
+    let less : a .n - r .fold-to .result ≡ k - n = omega arith in (
       c .find-lf2 .ensures,
       omega arith,
       omega arith,
       search needs,
-      rw r (both .1),
-      rw (r, got .1, got .0) (both .2) ∙ l .loop .inv .5,
+      record { missing = rw less (both .1); promised = rw (less, got .1, got .0) (both .2) ∙ l .loop .inv .4 .promised },
     )
 
 sub-copy-to : tie.Need-sub-copy-to Inv-loop μ-loop
@@ -140,11 +143,11 @@ same-length-2 c = search needs
 
 returns-2 : tie.Need-returns-2 Inv-loop μ-loop
 returns-2 c =
-    let l = c .before .before .before .before .before .before in
-    let a = l .before .before .before .before .args in
+    let r = c .before .before in let t = r .before .before .before in let l = t .before in let f = l .before in
+    let a = f .before .before .before .args in
     let k : ℕ = a .n - l .loop .len in
-    let h = c .before .before .before .before .before .loop-test .left in
-    rw (c .before .before .copy-to .ensures .1, over (a .message .now) (l .loop .at) (l .loop .pos) k (l .loop .inv .0) h) (l .loop .inv .5)
+    let h = t .loop-test .left in
+    rw (r .copy-to .ensures .1, over (a .message .now) (l .loop .at) (l .loop .pos) k (l .loop .inv .0) h) (l .loop .inv .4 .promised)
 
 pub summarise-into-spec : {M : Type 1} → statement M
 summarise-into-spec =

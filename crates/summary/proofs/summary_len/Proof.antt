@@ -63,11 +63,10 @@ loop-holds c = search needs
 
 returns : tie.Need-returns Inv-loop μ-loop
 returns c =
-    let l = c .before .before in
-    let s = l .before .before .before .args .message .now in
-    let i = l .loop .inv in
-    sym (stop s (l .loop .at) (l .loop .pos) (i .0) (c .before .loop-test .taken) (l .loop .len) (l .loop .kept) (omega arith))
-    ∙ i .4
+    let l = c .before .before in let s = l .before .before .before .args .message .now in
+    let (found, at-fits, len-fits, kept-fits, whole) = l .loop .inv in
+    sym (stop s (l .loop .at) (l .loop .pos) found (c .before .loop-test .taken) (l .loop .len) (l .loop .kept) (omega arith))
+    ∙ whole
     ∙ sized-spaced (pieces s)
 
 sub-piece : tie.Need-sub-piece Inv-loop μ-loop
@@ -82,29 +81,25 @@ part-piece-end c = search needs
 trim-end-requires : tie.Need-trim-end-requires Inv-loop μ-loop
 trim-end-requires c κs = search needs
 
+-- what is left of the piece ahead, trimmed in either way, is no longer than it
+short : (i : tie.In-loop Inv-loop μ-loop) → let l = i .before in
+    let p = piece (l .before .before .before .args .message .now) (l .loop .at) (l .loop .pos) in
+    (length (trimEnd p) ≤ l .loop .pos - l .loop .at) × (length (dropBlanks p) ≤ l .loop .pos - l .loop .at)
+short i =
+    let found = i .before .loop .inv .0 in
+    (trimmed-within _ _ _ found (i .loop-test .taken), blanks-within _ _ _ found (i .loop-test .taken))
+
 add-kept : tie.Need-add-kept Inv-loop μ-loop
-add-kept c =
-    let i = c .before .before .before .before in
-    let l = i .before in
-    let s = l .before .before .before .args .message .now in
-    omega (arith, trimmed-within s (l .loop .at) (l .loop .pos) (l .loop .inv .0) (i .loop-test .taken))
+add-kept c = let r = c .before in omega (arith, short (r .before .before .before))
 
 trim-blanks-requires : tie.Need-trim-blanks-requires Inv-loop μ-loop
 trim-blanks-requires c κs = search needs
 
 add-len : tie.Need-add-len Inv-loop μ-loop
-add-len c =
-    let i = c .before .before .before .before .before in
-    let l = i .before in
-    let s = l .before .before .before .args .message .now in
-    omega (arith, blanks-within s (l .loop .at) (l .loop .pos) (l .loop .inv .0) (i .loop-test .taken))
+add-len c = let r = c .before .before in omega (arith, short (r .before .before .before))
 
 add-len-2 : tie.Need-add-len-2 Inv-loop μ-loop
-add-len-2 c =
-    let i = c .before .before .before .before .before in
-    let l = i .before in
-    let s = l .before .before .before .args .message .now in
-    omega (arith, blanks-within s (l .loop .at) (l .loop .pos) (l .loop .inv .0) (i .loop-test .taken))
+add-len-2 c = let r = c .before .before in omega (arith, short (r .before .before .before))
 
 add-at : tie.Need-add-at Inv-loop μ-loop
 add-at c = search needs
@@ -117,17 +112,15 @@ loop-less c = search needs
 
 loop-again : tie.Need-loop-again Inv-loop μ-loop
 loop-again c =
-    let i = c .before .before .before .before .before .before in
-    let l = i .before in
+    let r = c .before .before .before in let i = r .before .before .before in let l = i .before in
     let s = l .before .before .before .args .message .now in
     let at = l .loop .at in
     let pos = l .loop .pos in
     let len = l .loop .len in
     let kept = l .loop .kept in
-    let e = l .loop .inv .0 in
-    let h = i .loop-test .taken in
+    let (found, at-fits, len-fits, kept-fits, whole) = l .loop .inv in
     let blanks = c .before .trim-blanks in
-    let trimmed = c .before .before .before .trim-end in
+    let trimmed = r .trim-end in
     let n = trimmed .result in
     let k : c .before .before .if2 .kept ≡ keep len kept n =
     ⊎-elim
@@ -135,12 +128,12 @@ loop-again c =
     (λ w. w .1 ∙ sym (keep-none len kept n (w .0 .left)))
     (c .before .before .if2 .came) in
     let z : pos ≡ at → ⊥ = λ o. omega arith in
-    let m : keep len kept n ≤ pos = keep-le len kept n pos (omega arith) (omega (arith, trimmed-within s at pos e h)) in (
+    let m : keep len kept n ≤ pos = keep-le len kept n pos (omega arith) (omega (arith, short i)) in (
       search needs,
       search needs,
-      omega (arith, blanks-within s at pos e h),
+      omega (arith, short i),
       omega arith,
-      turn s at pos e h len kept (blanks .result) n (c .before .before .if2 .kept) z (blanks .ensures) (trimmed .ensures) k ∙ l .loop .inv .4,
+      turn s at pos found (i .loop-test .taken) len kept (blanks .result) n (c .before .before .if2 .kept) z (blanks .ensures) (trimmed .ensures) k ∙ whole,
     )
 
 sub-result : tie.Need-sub-result Inv-loop μ-loop
@@ -148,17 +141,16 @@ sub-result c = search needs
 
 add-result : tie.Need-add-result Inv-loop μ-loop
 add-result c =
-    let l = c .before in
-    let s = l .before .before .before .args .message .now in
-    omega (arith, found-within s (l .loop .at) (l .loop .pos) (l .loop .inv .0) (l .loop .inv .1))
+    let l = c .before in let s = l .before .before .before .args .message .now in
+    let (found, at-fits, len-fits, kept-fits, whole) = l .loop .inv in
+    omega (arith, found-within s (l .loop .at) (l .loop .pos) found at-fits)
 
 returns-2 : tie.Need-returns-2 Inv-loop μ-loop
 returns-2 c =
-    let l = c .before in
-    let s = l .before .before .before .args .message .now in
-    let i = l .loop .inv in
-    sym (over s (l .loop .at) (l .loop .pos) (l .loop .len) (l .loop .kept) (i .0) (i .1) (c .loop-test .left))
-    ∙ i .4
+    let l = c .before in let s = l .before .before .before .args .message .now in
+    let (found, at-fits, len-fits, kept-fits, whole) = l .loop .inv in
+    sym (over s (l .loop .at) (l .loop .pos) (l .loop .len) (l .loop .kept) found at-fits (c .loop-test .left))
+    ∙ whole
     ∙ sized-spaced (pieces s)
 
 pub summary-len-spec : {M : Type 1} → statement M

@@ -45,10 +45,9 @@ is-ascii-whitespace-requires c κs = search needs
 
 returns : tie.Need-returns Inv-loop μ-loop
 returns c =
-    let l = c .before .before .before .before in
-    let p = l .before .before .args .piece .now in
+    let r = c .before in let l = r .before .before .before in let p = l .before .before .args .piece .now in
     let n = l .loop .n in
-    let w : blankByte (getD p (n - 1) 0) ≡ false = sym (c .before .is-ascii-whitespace .ensures) ∙ not-true _ (c .if1 .taken) in
+    let w : blankByte (getD p (n - 1) 0) ≡ false = sym (r .is-ascii-whitespace .ensures) ∙ not-true _ (c .if1 .taken) in
     sym (ap length (sym (l .loop .inv .1) ∙ stays n p (omega arith) (omega arith) w) ∙ length-take-le n p (omega arith))
 
 sub-n : tie.Need-sub-n Inv-loop μ-loop
@@ -59,10 +58,9 @@ loop-less c = search needs
 
 loop-again : tie.Need-loop-again Inv-loop μ-loop
 loop-again c =
-    let l = c .before .before .before .before in
-    let p = l .before .before .args .piece .now in
+    let r = c .before in let l = r .before .before .before in let p = l .before .before .args .piece .now in
     let n = l .loop .n in
-    let w : blankByte (getD p (n - 1) 0) ≡ true = sym (c .before .is-ascii-whitespace .ensures) ∙ not-false _ (c .if1 .left) in
+    let w : blankByte (getD p (n - 1) 0) ≡ true = sym (r .is-ascii-whitespace .ensures) ∙ not-false _ (c .if1 .left) in
     (search needs, sym (goes n p (omega arith) (omega arith) w) ∙ l .loop .inv .1)
 
 returns-2 : tie.Need-returns-2 Inv-loop μ-loop

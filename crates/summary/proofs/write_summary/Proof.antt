@@ -16,10 +16,10 @@ same-length c = search needs
 
 returns : tie.Need-returns
 returns c =
-    let b = c .before .before .before .before .before .before .before in
+    let r = c .before .before in let even = r .before .before in let b = even .before .before .before in
     let m = b .args .message .now in
-    let size : length (spaced (pieces m)) ≡ length m = sym (b .pre .0) ∙ c .before .before .before .before .if1 .taken in
-    rw (size, plain-summary m size) (c .before .before .copy-with-spaces .ensures)
+    let size : length (spaced (pieces m)) ≡ length m = sym (b .pre .0) ∙ even .if1 .taken in
+    rw (size, plain-summary m size) (r .copy-with-spaces .ensures)
 
 summarise-into-requires : tie.Need-summarise-into-requires
 summarise-into-requires c κs = search needs

@@ -31,15 +31,15 @@ title-and-body-requires c κs = search needs
 
 returns-2 : tie.Need-returns-2
 returns-2 c =
-    let m = c .before .before .before .before .args .message .now in
-    let e = c .before .title-and-body .ensures in
-    rw (le-ltb limit (length m) (c .before .before .if1 .left), no-body m (sym (e .1) ∙ c .if2 .taken), e .0)
+    let r = c .before in let m = r .before .before .before .args .message .now in
+    let e = r .title-and-body .ensures in
+    rw (le-ltb limit (length m) (r .before .if1 .left), no-body m (sym (e .1) ∙ c .if2 .taken), e .0)
 
 returns-3 : tie.Need-returns-3
 returns-3 c =
-    let m = c .before .before .before .before .args .message .now in
-    let e = c .before .title-and-body .ensures in
-    rw (le-ltb limit (length m) (c .before .before .if1 .left), some-body m (λ p. c .if2 .left (e .1 ∙ p)), e .0, e .1)
+    let r = c .before in let m = r .before .before .before .args .message .now in
+    let e = r .title-and-body .ensures in
+    rw (le-ltb limit (length m) (r .before .if1 .left), some-body m (λ p. c .if2 .left (e .1 ∙ p)), e .0, e .1)
 
 pub message-title-and-body-spec : {M : Type 1} → statement M
 message-title-and-body-spec = tie.close (tie.spec returns title-and-body-requires returns-2 returns-3)
