@@ -1,4 +1,4 @@
--- `reading::kind_of` meets its contract. Assumes nothing.
+-- `explaining::kind_of` meets its contract. Assumes nothing.
 use mathlib.Core.Path.{sym, _∙_}
 use borrow.Author.Needs.{needs}
 use borrow.Author.Tests.{not-true, not-false}
@@ -32,9 +32,9 @@ is-indented-requires c κs = search needs
 
 returns-3 : tie.Need-returns-3
 returns-3 c =
-    let p = c .before .before .before .before in
-    let none = told _ _ _ (p .parse-trailer-line .ensures) (c .before .before .enum-told2 .given .1) in
-    let no = sym (c .before .is-indented .ensures) ∙ not-true _ (c .if2 .taken) in
+    let i = c .before in let p = i .before .before .before in
+    let none = told _ _ _ (p .parse-trailer-line .ensures) (i .before .enum-told2 .given .1) in
+    let no = sym (i .is-indented .ensures) ∙ not-true _ (c .if2 .taken) in
     rw (← p .before .before .is-recognized-prefix .ensures, p .before .if1 .left, none, no)
 
 kind-of-indented-requires : tie.Need-kind-of-indented-requires
@@ -42,10 +42,9 @@ kind-of-indented-requires c κs = search needs
 
 returns-4 : tie.Need-returns-4
 returns-4 c =
-    let i = c .before in
-    let p = i .before .before .before .before in
-    let none = told _ _ _ (p .parse-trailer-line .ensures) (i .before .before .enum-told2 .given .1) in
-    let yes = sym (i .before .is-indented .ensures) ∙ not-false _ (i .if2 .left) in
+    let i = c .before .before in let p = i .before .before .before in
+    let none = told _ _ _ (p .parse-trailer-line .ensures) (i .before .enum-told2 .given .1) in
+    let yes = sym (i .is-indented .ensures) ∙ not-false _ (c .before .if2 .left) in
     rw (← p .before .before .is-recognized-prefix .ensures, p .before .if1 .left, none, yes) (c .kind-of-indented .ensures)
 
 pub kind-of-spec : {M : Type 1} → statement M

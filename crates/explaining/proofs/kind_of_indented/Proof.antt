@@ -1,4 +1,4 @@
--- `reading::kind_of_indented` meets its contract. Assumes nothing.
+-- `explaining::kind_of_indented` meets its contract. Assumes nothing.
 use borrow.Author.Tests.{not-true, not-false}
 use Rattle.explaining.proofs.kind_of_indented.Statement.{statement}
 use Rattle.explaining.proofs.kind_of_indented.Tie as tie

@@ -1,4 +1,4 @@
--- `reading::print_blocks` is safe and ends: each block has bytes. Assumes nothing.
+-- `explaining::print_blocks` is safe and ends: each block has bytes. Assumes nothing.
 use mathlib.Core.List.{List, [], _∷_}
 use mathlib.Core.Path.{_≡_, refl, sym, _∙_}
 use Prim.Native.Nat.{ℕ, _+_, _-_, _≤_, _<_}
@@ -43,12 +43,11 @@ print-block-requires : tie.Need-print-block-requires Inv-loop μ-loop
 print-block-requires c κs = search needs
 
 -- at the end of a turn
-turn : (c : tie.After-print-block Inv-loop μ-loop) → let l = c .before .before .before .before .before in
-    (l .loop .at < c .before .before .message-end .given .0 .1 .0)
-    × (c .before .before .message-end .given .0 .1 .0 ≤ length (l .before .before .args .body .now))
+turn : (c : tie.After-print-block Inv-loop μ-loop) → let m = c .before .before in let l = m .before .before .before in
+    (l .loop .at < m .message-end .given .0 .1 .0) × (m .message-end .given .0 .1 .0 ≤ length (l .before .before .args .body .now))
 turn c =
-    let l = c .before .before .before .before .before in
-    let found = sym (c .before .before .before .before .next-block-from .ensures) ∙ c .before .before .message-end .given .1 in
+    let m = c .before .before in let r = m .before .before in let l = r .before in
+    let found = sym (r .next-block-from .ensures) ∙ m .message-end .given .1 in
     moved (l .before .before .args .body .now) (l .loop .at) (l .loop .from) _ _ (omega arith) found
 
 loop-less : tie.Need-loop-less Inv-loop μ-loop

@@ -1,4 +1,4 @@
--- `reading::print_body` is safe: the last paragraph and the block start are in the body. Assumes nothing.
+-- `explaining::print_body` is safe: the last paragraph and the block start are in the body. Assumes nothing.
 use Prim.Native.Nat.{_≤_}
 use native.Mathlib.Omega.{arith}
 use borrow.Author.Needs.{needs}
@@ -33,8 +33,8 @@ print-start-requires c κs = search needs
 
 print-blocks-requires : tie.Need-print-blocks-requires
 print-blocks-requires c κs =
-    let t = c .before in
-    rw (t .trailer-block-start .ensures) (start-within (t .before .before .before .before .before .before .before .args .body .now))
+    let t = c .before in let p = t .before .before .before in let q = p .before .before in
+    rw (t .trailer-block-start .ensures) (start-within (q .before .before .args .body .now))
 
 returns : tie.Need-returns
 returns c = search needs

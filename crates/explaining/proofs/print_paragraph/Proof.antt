@@ -1,4 +1,4 @@
--- `reading::print_paragraph` is safe and ends: each turn moves on by a line. Assumes nothing.
+-- `explaining::print_paragraph` is safe and ends: each turn moves on by a line. Assumes nothing.
 use Prim.Native.Nat.{_+_, _-_, _≤_, _<_}
 use native.Mathlib.Omega.{arith}
 use borrow.Author.Needs.{needs}
@@ -38,11 +38,11 @@ line-len-requires : tie.Need-line-len-requires Inv-loop μ-loop
 line-len-requires c κs = search needs
 
 -- a line is ahead
-ahead : (c : tie.After-line-len Inv-loop μ-loop) → let l = c .before .before .before in
-    (0 < c .line-len .result) × (l .loop .at + c .line-len .result ≤ length (l .before .before .before .before .before .args .body .now))
+ahead : (c : tie.After-line-len Inv-loop μ-loop) → let l = c .before .before .before in let lent = l .before .before in
+    (0 < c .line-len .result) × (l .loop .at + c .line-len .result ≤ length (lent .before .before .before .args .body .now))
 ahead c =
-    let l = c .before .before .before in
-    line-ahead (l .before .before .before .before .before .args .body .now) (l .loop .at) (c .line-len .result) (omega arith) (c .line-len .ensures)
+    let l = c .before .before .before in let lent = l .before .before in
+    line-ahead (lent .before .before .before .args .body .now) (l .loop .at) (c .line-len .result) (omega arith) (c .line-len .ensures)
 
 add-end : tie.Need-add-end Inv-loop μ-loop
 add-end c = omega (arith, ahead c)
@@ -72,10 +72,10 @@ is-forgiving-requires : tie.Need-is-forgiving-requires Inv-loop μ-loop
 is-forgiving-requires c κs = search needs
 
 loop-less : tie.Need-loop-less Inv-loop μ-loop
-loop-less c = omega (arith, ahead (c .before .before .before .before .before .before))
+loop-less c = let text = c .before .before .before in omega (arith, ahead (text .before .before .before))
 
 loop-again : tie.Need-loop-again Inv-loop μ-loop
-loop-again c = ahead (c .before .before .before .before .before .before) .1
+loop-again c = let text = c .before .before .before in ahead (text .before .before .before) .1
 
 returns-2 : tie.Need-returns-2 Inv-loop μ-loop
 returns-2 c = search needs

@@ -1,4 +1,4 @@
--- `reading::print_reading` is safe: the body starts in the message. Assumes nothing.
+-- `explaining::print_reading` is safe: the body starts in the message. Assumes nothing.
 use Prim.Native.Nat.{_≤_}
 use borrow.Author.Needs.{needs}
 use lib.ListN.{length}

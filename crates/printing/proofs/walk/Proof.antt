@@ -1,20 +1,14 @@
--- `walk` counts the trailers of the walk. Invariant: the trailers counted and those left from the cursor on are all of them;
+-- `printing::walk` meets its contract. Invariant: the trailers counted and those left from the cursor on are all of them;
 -- no more are counted than the cursor has bytes before it, so the count fits. Measure: the bytes behind the cursor.
 -- Assumes nothing.
-use mathlib.Core.List.{List}
 use mathlib.Core.Path.{_≡_, ap}
-use Prim.Native.Nat.{ℕ, _+_, _-_, _≤_}
+use Prim.Native.Nat.{_+_, _-_, _≤_}
 use native.Mathlib.Omega.{arith}
 use borrow.Author.Needs.{needs}
 use lib.ListN.{length}
-use Rattle.io.proofs.large_buffer.Reads as large-buffer-reads
 use Rattle.printing.proofs.Step.{Found, found, none-left}
-use Rattle.printing.proofs.print_trailer.Reads as print-trailer-reads
-use Rattle.printing.proofs.walk.Lts as lts
-use Rattle.printing.proofs.walk.Reads as reads
 use Rattle.printing.proofs.walk.Statement.{statement}
 use Rattle.printing.proofs.walk.Tie as tie
-use Rattle.body.proofs.next_trailer.Reads as next-trailer-reads
 use Rattle.rules.specs.Trailer.{walkFrom}
 
 abbrev Inv-loop : tie.InvT-loop
@@ -46,43 +40,12 @@ slice-aggregate-print-trailer c = search needs
 print-trailer-requires : tie.Need-print-trailer-requires Inv-loop μ-loop
 print-trailer-requires c κs = search needs
 
--- the end of a turn, where the step has found a trailer
-abbrev Turn : Type 0
-Turn =
-    lts.Joined1 (
-      large-buffer-reads.Asked,
-      large-buffer-reads.Learnt,
-      next-trailer-reads.Asked,
-      next-trailer-reads.Learnt,
-      print-trailer-reads.Asked,
-      print-trailer-reads.Learnt,
-    )
-    reads.Pre
-    reads.Post
-    Inv-loop
-    μ-loop
-
-module _ (c : Turn) where
-  abbrev message : List ℕ
-  message = c .before .before .before .before .before .before .before .before .before .before .args .message .now
-
-  abbrev at : ℕ
-  at = c .before .before .before .before .before .before .before .loop .cursor .at
-
-  abbrev room : ℕ
-  room = length (c .before .before .before .before .before .before .before .loop .buffer)
-
-  moved : Found message at (c .before .before .found .given .0 .1 .0 .at)
-  moved =
-      found
-      message
-      at
-      room
-      (c .before .before .before .before .before .next-trailer .result)
-      (c .before .before .found .given .0 .0)
-      (c .before .before .found .given .0 .1 .0)
-      (c .before .before .found .given .1)
-      (c .before .before .before .before .before .next-trailer .ensures .0)
+-- where the step has found a trailer, it has moved on
+moved : (c : tie.Joined1 Inv-loop μ-loop) → let f = c .before .before in let r = f .before .before .before in let l = r .before .before in
+    Found (l .before .before .before .args .message .now) (l .loop .cursor .at) (f .found .given .0 .1 .0 .at)
+moved c =
+    let f = c .before .before in let r = f .before .before .before in
+    found _ _ _ _ _ _ (f .found .given .1) (r .next-trailer .ensures .0)
 
 add-count : tie.Need-add-count Inv-loop μ-loop
 add-count c = omega (arith, moved c .moves, moved c .within)
@@ -95,20 +58,11 @@ loop-again c = (search needs, omega (arith, moved c .moves), omega (arith, moved
 
 returns : tie.Need-returns Inv-loop μ-loop
 returns c =
-    omega (
-      arith,
-      ap
-          length
-          (none-left
-          (c .before .before .before .before .before .before .before .args .message .now)
-          (c .before .before .before .before .loop .cursor .at)
-          (length (c .before .before .before .before .loop .buffer))
-          (c .before .before .next-trailer .result)
-          (c .match .keys2)
-          (search needs)
-          (search needs)
-          (c .before .before .next-trailer .ensures .0)),
-    )
+    let r = c .before .before in let l = r .before .before in
+    let message = l .before .before .before .args .message .now in
+    let step = r .next-trailer in
+    let none = none-left message (l .loop .cursor .at) (length (l .loop .buffer)) (step .result) (c .match .keys2) (search needs) (search needs) (step .ensures .0) in
+    omega (arith, ap length none)
 
 pub walk-spec : {M : Type 1} → statement M
 walk-spec =
