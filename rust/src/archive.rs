@@ -110,7 +110,7 @@ pub fn next_trailer(body: &[u8], at: usize, kind: Kind, out: &mut [u8]) -> Resul
         )
     })?;
     Ok(match answer {
-        [6, token_start, token_end, held, start, end, next] => TrailerStep {
+        [6, token_start, token_end, held, start, end, next, ..] => TrailerStep {
             found: Some(Found {
                 token: token_start..token_end,
                 value: place(held, start, end),
@@ -136,7 +136,7 @@ pub fn find_trailer(body: &[u8], name: &[u8], out: &mut [u8]) -> Result<Option<F
         )
     })?;
     Ok(match answer {
-        [5, token_start, token_end, held, start, end, _] => Some(Found {
+        [5, token_start, token_end, held, start, end, ..] => Some(Found {
             token: token_start..token_end,
             value: place(held, start, end),
         }),
