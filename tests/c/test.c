@@ -189,12 +189,19 @@ static void limit(void) {
     EXPECT(sluicepod_title_and_body(input, len + 1, RESULT), SLUICEPOD_TOO_LONG, "", 0);
     EXPECT(sluicepod_summary(input, len, OUT, RESULT), SLUICEPOD_OK, "", 3, 0, 0, len);
     EXPECT(sluicepod_summary(input, len + 1, OUT, RESULT), SLUICEPOD_TOO_LONG, "", 0);
+    EXPECT(sluicepod_message_summary(input, len, OUT, RESULT), SLUICEPOD_OK, "", 3, 0, 0, len);
     EXPECT(sluicepod_message_summary(input, len + 1, OUT, RESULT), SLUICEPOD_TOO_LONG, "", 0);
     EXPECT(sluicepod_block_start(input, len, RESULT), SLUICEPOD_OK, "", 1, len);
     EXPECT(sluicepod_block_start(input, len + 1, RESULT), SLUICEPOD_TOO_LONG, "", 0);
+    EXPECT(sluicepod_message_trailers(input, len, RESULT), SLUICEPOD_OK, "", 1, len);
     EXPECT(sluicepod_message_trailers(input, len + 1, RESULT), SLUICEPOD_TOO_LONG, "", 0);
+    EXPECT(sluicepod_find_trailer(input, len, BYTES("A"), OUT, RESULT), SLUICEPOD_OK, "", 0);
     EXPECT(sluicepod_find_trailer(input, len + 1, BYTES("A"), OUT, RESULT), SLUICEPOD_TOO_LONG, "", 0);
+    EXPECT(sluicepod_find_trailer(BYTES("A: b"), input, len, OUT, RESULT), SLUICEPOD_OK, "", 0);
     EXPECT(sluicepod_find_trailer(BYTES("A: b"), input, len + 1, OUT, RESULT), SLUICEPOD_TOO_LONG, "", 0);
+    EXPECT(sluicepod_next_trailer(input, len, 0, SLUICEPOD_ALL, OUT, RESULT), SLUICEPOD_OK, "", 1, len);
+    EXPECT(sluicepod_next_block(input, len, 0, 0, RESULT), SLUICEPOD_OK, "", 4, len, len, len, len);
+    EXPECT(sluicepod_is_of_kind(input, len, 0, 1, SLUICEPOD_ALL, RESULT), SLUICEPOD_OK, "", 1, (size_t)1);
     /* before the place is looked at */
     EXPECT(sluicepod_next_trailer(input, len + 1, len + 2, SLUICEPOD_ALL, OUT, RESULT), SLUICEPOD_TOO_LONG, "", 0);
     EXPECT(sluicepod_next_block(input, len + 1, len + 2, 0, RESULT), SLUICEPOD_TOO_LONG, "", 0);

@@ -1,5 +1,8 @@
-// Lists the entries of the journal: for each file that an argument names, its name, what the lister prints of it, and its
-// reading.
+// Lists the entries of the journal: for each file that an argument names, its name, what the lister prints of it, its reading,
+// and what the calls answer that neither shows.
+mod calls;
+
+use calls::print_calls;
 use libc::STDOUT_FILENO;
 
 fn main() {
@@ -27,4 +30,16 @@ fn list_entry(i: usize) {
     let again = os::open_read(&name[..len]);
     explaining::explain(again);
     libc::close(again);
+    io::write_all(STDOUT_FILENO, b"= calls\n");
+    ask_entry(&name[..len]);
+}
+
+// Puts the entry in a file to the calls.
+fn ask_entry(name: &[u8]) {
+    let fd = os::open_read(name);
+    let mut space = io::large_buffer();
+    let len = io::read_full(fd, &mut space);
+    libc::close(fd);
+    let mut buffer = io::large_buffer();
+    print_calls(&space[..len], &mut buffer);
 }
