@@ -6,15 +6,16 @@ use mathlib.Core.Path.{_≡_, refl, sym, ap, _∙_}
 use Prim.Native.Nat.{ℕ, zero, suc, _+_, _-_, _≤_, _<_}
 use native.Mathlib.Omega.{arith}
 use borrow.Author.Tests.{eq-eqb, eqb-true}
-use lib.ListN.{length, take, drop, length-append, length-drop, take-append-drop}
+use lib.Dec.{T, eqb, not-T}
+use lib.ListN.{length, take, drop, getD, length-append, length-drop, take-append-drop}
 use lib.Seq.{drop-append-seam, drop-drop, length-take-le, take-all, take-append-seam, take-take}
 use Rattle.rules.specs.Lists.{if_then_else_, filled}
 use Rattle.rules.specs.White.{Form, formAt, trimStart, trimEnd, trim, trimAt}
-use Rattle.rules.proofs.Lists.{filled-some}
+use Rattle.rules.proofs.Lists.{filled-some, is-false, is-true}
 use Rattle.rules.proofs.White.{EndsWithNone, form, bare, form-at, form-filled, form-length, front-trimmed}
 use Rattle.rules.proofs.White.{trimStart-step, trimStart-stop, trimEnd-step, trimEnd-stop}
 use Rattle.white.specs.White.{lastForm, formEnd}
-use Rattle.white.proofs.Forms.{form-at-most-three}
+use Rattle.white.proofs.Forms.{formAt-fits, form-at-most-three, high-longer, low-alone}
 use Rattle.rules.proofs.Parts.{rest}
 
 -- ---- a form at the end, or none
@@ -64,6 +65,31 @@ end-by-tests false false false s p q r = bare-last none refl
 pub form-end : (s : List ℕ) → Back s (formEnd s)
 unfolding formEnd
 form-end s = end-by-tests (lastForm 1 s) (lastForm 2 s) (lastForm 3 s) s refl refl refl
+
+-- ---- the last byte decides which lengths are in question
+
+not-last : (k : ℕ) (s : List ℕ) → 0 < k → ((f rest : List ℕ) → Form f → s ≡ rest ++ f → k ≡ length f → ⊥) → lastForm k s ≡ false
+not-last k s h n = is-false (lastForm k s) (not-T (lastForm k s) refuted)
+  where
+    refuted : T (lastForm k s) → ⊥
+    refuted t = elim (last-back k s h (is-true (lastForm k s) t)) [ form-last f rest m e l ↦ n f rest m e l | bare-last b z ↦ omega arith ]
+
+low-longer : (k : ℕ) (s : List ℕ) → 1 < k → getD s (length s - 1) 0 < 0x80 → lastForm k s ≡ false
+low-longer k s h l = not-last k s (omega arith) (λ f rest m e q. omega (arith, low-alone f rest m (rw e at l)))
+
+one-or-none : (n : ℕ) → n ≤ 1 → (if eqb n 1 then 1 else 0) ≡ n
+one-or-none zero h = refl
+one-or-none (suc zero) h = refl
+one-or-none (suc (suc n)) h = absurd (omega arith)
+
+pub low-last : (s : List ℕ) → getD s (length s - 1) 0 < 0x80 → 0 < length s → formEnd s ≡ formAt (drop (length s - 1) s)
+unfolding formEnd
+low-last s l h =
+    rw (low-longer 2 s (omega arith) l, low-longer 3 s (omega arith) l)
+    (one-or-none (formAt (drop (length s - 1) s)) (omega (arith, formAt-fits (drop (length s - 1) s), length-drop (length s - 1) s)))
+
+pub high-last : (s : List ℕ) → 0x80 ≤ getD s (length s - 1) 0 → lastForm 1 s ≡ false
+high-last s l = not-last 1 s (omega arith) (λ f rest m e q. omega (arith, high-longer f rest m (rw e at l)))
 
 -- ---- the scan from the front: where it stands, as much is left to trim as at first
 

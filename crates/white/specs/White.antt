@@ -1,11 +1,23 @@
--- A form at the end of an input. What the length found has to do with the forms is proved (proofs/Scan, form-end).
+-- A code point read from the front of an input, and a form at the end of one. What the lengths found have to do with the forms
+-- is proved (proofs/Utf8, found and passed; proofs/Scan, form-end).
 use mathlib.Core.Bool.{Bool}
-use mathlib.Core.List.{List}
-use Prim.Native.Nat.{ℕ, _-_}
+use mathlib.Core.List.{List, _++_}
+use mathlib.Core.Path.{_≡_}
+use Prim.Native.Nat.{ℕ, _-_, _<_}
 use lib.Dec.{eqb}
 use lib.ListN.{length, drop}
+use Rattle.rules.specs.Bytes.{within}
 use Rattle.rules.specs.Lists.{if_then_else_}
-use Rattle.rules.specs.White.{formAt}
+use Rattle.rules.specs.White.{utf8, formAt}
+
+-- the six bits that a continuation byte carries (RFC 3629, section 3: 10xxxxxx); 64 where the byte is none
+abbrev pub carries : ℕ → ℕ
+carries b = if within 0x80 0xbf b then b - 0x80 else 64
+
+-- at the front of `s` stands the form of `code`, of `len` bytes; or that of no code point below U+10000, and both are 0
+pub data Decoded (s : List ℕ) (code len : ℕ) : Type 0 where
+  point : (rest : List ℕ) → code < 0x10000 → s ≡ utf8 code ++ rest → len ≡ length (utf8 code) → Decoded s code len
+  none : ((c : ℕ) (rest : List ℕ) → c < 0x10000 → s ≡ utf8 c ++ rest → ⊥) → code ≡ 0 → len ≡ 0 → Decoded s code len
 
 -- the last k bytes are a form
 abbrev pub lastForm : ℕ → List ℕ → Bool

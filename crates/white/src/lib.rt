@@ -1,104 +1,212 @@
-// White space: the forms at the front and at the end of an input, and what trimming keeps.
-ghost use mathlib.Core.List.{[], _∷_};
+// White space: Unicode's table, the forms at the front and at the end of an input, and what trimming keeps.
 ghost use mathlib.Core.Path.{_≡_};
-ghost use Prim.Native.Nat.{_+_, _-_};
+ghost use Prim.Native.Nat.{_+_, _-_, _≤_, _<_};
 ghost use lib.Dec.{eqb};
-ghost use lib.ListN.{length};
-ghost use Rattle.rules.specs.Lists.{any, equal};
-ghost use Rattle.rules.specs.White.{forms, formAt, trimStart, trimEnd, trim, trimAt};
-ghost use Rattle.white.specs.White.{lastForm, formEnd};
+ghost use lib.ListN.{length, take, drop, getD};
+ghost use Rattle.rules.specs.Lists.{any};
+ghost use Rattle.rules.specs.White.{whiteSpace, formAt, trimStart, trimEnd, trim, trimAt};
+ghost use Rattle.white.specs.White.{carries, Decoded, lastForm, formEnd};
 use rules::Part;
 
-// Whether a form of one byte is at the front: U+0009 to U+000D, U+0020.
-fn is_white_1(s: &[u8]) -> bool
-    ensures { λ r. ⌜ r ≡ eqb (formAt (now (s .entry))) 1 ⌝ }
+// White_Space of Unicode's PropList.txt, in its order. This table alone says what white space is.
+const WHITE_SPACE: [u32; 25] = [
+    // 0009..000D <control-0009>..<control-000D>
+    0x0009,
+    0x000a,
+    0x000b,
+    0x000c,
+    0x000d,
+    // 0020 SPACE
+    0x0020,
+    // 0085 <control-0085>
+    0x0085,
+    // 00A0 NO-BREAK SPACE
+    0x00a0,
+    // 1680 OGHAM SPACE MARK
+    0x1680,
+    // 2000..200A EN QUAD..HAIR SPACE
+    0x2000,
+    0x2001,
+    0x2002,
+    0x2003,
+    0x2004,
+    0x2005,
+    0x2006,
+    0x2007,
+    0x2008,
+    0x2009,
+    0x200a,
+    // 2028 LINE SEPARATOR
+    0x2028,
+    // 2029 PARAGRAPH SEPARATOR
+    0x2029,
+    // 202F NARROW NO-BREAK SPACE
+    0x202f,
+    // 205F MEDIUM MATHEMATICAL SPACE
+    0x205f,
+    // 3000 IDEOGRAPHIC SPACE
+    0x3000,
+];
+
+// How many entries are below 0x80: their forms have one byte.
+const BYTES: usize = 6;
+
+// The table is the list of the rules.
+fn white_space() -> [u32; 25]
+    ensures { λ r. ⌜ r ≡ whiteSpace ⌝ }
 {
-    if s.len() < 1 {
-        return false;
-    }
-    let a = s[0];
-    a == b' ' || (a >= 0x09 && a <= 0x0d)
+    WHITE_SPACE
 }
 
-// Whether a form of two bytes is at the front: U+0085, U+00A0.
-fn is_white_2(s: &[u8]) -> bool
-    ensures { λ r. ⌜ r ≡ eqb (formAt (now (s .entry))) 2 ⌝ }
+// Whether a code point is among the entries of the table from `from` to `end`.
+fn is_among(code: u32, from: usize, end: usize) -> bool
+    requires { ⌜ (from ≤ end) × (end ≤ 25) ⌝ }
+    ensures { λ r. ⌜ r ≡ any (eqb code) (take (end - from) (drop from whiteSpace)) ⌝ }
+{
+    let table = white_space();
+    let mut i = from;
+    while i < end {
+        if table[i] == code {
+            return true;
+        }
+        i += 1;
+    }
+    false
+}
+
+// The six bits that a continuation byte carries; 64 where the byte is none.
+fn carried(byte: u8) -> u32
+    ensures { λ r. ⌜ r ≡ carries byte ⌝ }
+{
+    if byte < 0x80 {
+        return 64;
+    }
+    if byte > 0xbf {
+        return 64;
+    }
+    byte as u32 - 0x80
+}
+
+// A code point and the length of its form; 0 and 0 where there is none.
+struct CodePoint {
+    code: u32,
+    len: usize,
+}
+
+const NONE: CodePoint = CodePoint { code: 0, len: 0 };
+
+// The code point below U+10000 whose form is at the front. The first byte is not below 0x80.
+fn decode(s: &[u8]) -> CodePoint
+    requires { ⌜ 0x80 ≤ getD (now s) 0 0 ⌝ }
+    ensures { λ r. ⌜ Decoded (now (s .entry)) (r .code) (r .len) ⌝ }
+{
+    if s[0] < 0xe0 {
+        return decode_two(s);
+    }
+    decode_three(s)
+}
+
+// The same, where the first byte is that of a form of two bytes or of none: 0xc0 and 0xc1 begin overlong ones alone.
+fn decode_two(s: &[u8]) -> CodePoint
+    requires { ⌜ (0x80 ≤ getD (now s) 0 0) × (getD (now s) 0 0 < 0xe0) ⌝ }
+    ensures { λ r. ⌜ Decoded (now (s .entry)) (r .code) (r .len) ⌝ }
 {
     if s.len() < 2 {
-        return false;
+        return NONE;
     }
-    let b = s[1];
-    s[0] == 0xc2 && (b == 0x85 || b == 0xa0)
+    let a = s[0] as u32;
+    let b = carried(s[1]);
+    if a < 0xc2 {
+        return NONE;
+    }
+    if b > 63 {
+        return NONE;
+    }
+    let code = (a - 0xc0) * 64 + b;
+    CodePoint { code: code, len: 2 }
 }
 
-// Whether a form of three bytes is at the front: U+1680, U+3000, and those of `is_white_e2`.
-fn is_white_3(s: &[u8]) -> bool
-    ensures { λ r. ⌜ r ≡ eqb (formAt (now (s .entry))) 3 ⌝ }
+// The same, where the first byte is that of a form of three bytes or of none. What is below U+0800 is overlong.
+fn decode_three(s: &[u8]) -> CodePoint
+    requires { ⌜ 0xe0 ≤ getD (now s) 0 0 ⌝ }
+    ensures { λ r. ⌜ Decoded (now (s .entry)) (r .code) (r .len) ⌝ }
 {
     if s.len() < 3 {
-        return false;
+        return NONE;
     }
-    let a = s[0];
-    let b = s[1];
-    let c = s[2];
-    if a == 0xe1 {
-        return b == 0x9a && c == 0x80;
+    let a = s[0] as u32;
+    let b = carried(s[1]);
+    let c = carried(s[2]);
+    if a > 0xef {
+        return NONE;
     }
-    if a == 0xe2 {
-        return is_white_e2(b, c);
+    if b > 63 {
+        return NONE;
     }
-    a == 0xe3 && (b == 0x80 && c == 0x80)
+    if c > 63 {
+        return NONE;
+    }
+    let code = (a - 0xe0) * 4096 + b * 64 + c;
+    if code < 0x800 {
+        return NONE;
+    }
+    CodePoint { code: code, len: 3 }
 }
 
-// Whether 0xe2 and two bytes are a form: U+2000 to U+200A, U+2028, U+2029, U+202F, U+205F.
-fn is_white_e2(b: u8, c: u8) -> bool
-    ensures { λ r. ⌜ r ≡ any (equal (0xe2 ∷ b ∷ c ∷ [])) forms ⌝ }
+// The length of the form at the front, whose first byte is not below 0x80; 0 where none is there.
+fn white_len_wide(s: &[u8]) -> usize
+    requires { ⌜ 0x80 ≤ getD (now s) 0 0 ⌝ }
+    ensures { λ r. ⌜ r ≡ formAt (now (s .entry)) ⌝ }
 {
-    if b == 0x81 {
-        return c == 0x9f;
+    let point = decode(s);
+    if is_among(point.code, BYTES, 25) {
+        return point.len;
     }
-    if b != 0x80 {
-        return false;
-    }
-    if c <= 0x8a {
-        return c >= 0x80;
-    }
-    c == 0xa8 || (c == 0xa9 || c == 0xaf)
+    0
 }
 
 // The length of the form at the front; 0 where none is there.
 pub fn white_len(s: &[u8]) -> usize
     ensures { λ r. ⌜ r ≡ formAt (now (s .entry)) ⌝ }
 {
-    if is_white_1(s) {
+    if s.len() < 1 {
+        return 0;
+    }
+    let a = s[0];
+    if a >= 0x80 {
+        return white_len_wide(s);
+    }
+    if is_among(a as u32, 0, BYTES) {
         return 1;
-    }
-    if is_white_2(s) {
-        return 2;
-    }
-    if is_white_3(s) {
-        return 3;
     }
     0
 }
 
-// Whether the last `k` bytes are a form.
+// Whether the last `k` bytes, two or more, are a form.
 fn is_white_last(s: &[u8], k: usize) -> bool
+    requires { ⌜ 2 ≤ k ⌝ }
     ensures { λ r. ⌜ r ≡ lastForm k (now (s .entry)) ⌝ }
 {
     let n = s.len();
     if n < k {
         return false;
     }
-    white_len(&s[n - k..]) == k
+    if s[n - k] < 0x80 {
+        return false;
+    }
+    white_len_wide(&s[n - k..]) == k
 }
 
-// The length of the form at the end; 0 where none is there.
+// The length of the form at the end; 0 where none is there. Only a form of one byte ends in a byte below 0x80.
 pub fn white_len_last(s: &[u8]) -> usize
     ensures { λ r. ⌜ r ≡ formEnd (now (s .entry)) ⌝ }
 {
-    if is_white_last(s, 1) {
-        return 1;
+    let n = s.len();
+    if n < 1 {
+        return 0;
+    }
+    if s[n - 1] < 0x80 {
+        return white_len(&s[n - 1..]);
     }
     if is_white_last(s, 2) {
         return 2;

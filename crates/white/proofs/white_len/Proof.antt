@@ -1,44 +1,49 @@
 -- `white::white_len` meets its contract. Assumes nothing.
 use mathlib.Core.Path.{sym, _∙_}
+use native.Mathlib.Omega.{arith}
 use borrow.Author.Needs.{needs}
-use borrow.Author.Tests.{eqb-true}
-use Rattle.white.proofs.Forms.{no-length}
+use Rattle.white.proofs.Forms.{formAt-fits}
+use Rattle.white.proofs.Utf8.{low-found, low-passed}
 use Rattle.white.proofs.white_len.Statement.{statement}
 use Rattle.white.proofs.white_len.Tie as tie
 
-is-white-1-requires : tie.Need-is-white-1-requires
-is-white-1-requires c κs = search needs
-
 returns : tie.Need-returns
-returns c = sym (eqb-true _ 1 (sym (c .before .is-white-1 .ensures) ∙ c .if1 .taken))
+returns c = omega (arith, formAt-fits (c .before .before .args .s .now))
 
-is-white-2-requires : tie.Need-is-white-2-requires
-is-white-2-requires c κs = search needs
+shared-slice-read-a : tie.Need-shared-slice-read-a
+shared-slice-read-a c = search needs
+
+white-len-wide-requires : tie.Need-white-len-wide-requires
+white-len-wide-requires c κs = search needs
 
 returns-2 : tie.Need-returns-2
-returns-2 c = sym (eqb-true _ 2 (sym (c .before .is-white-2 .ensures) ∙ c .if2 .taken))
+returns-2 c = search needs
 
-is-white-3-requires : tie.Need-is-white-3-requires
-is-white-3-requires c κs = search needs
+cast-is-among : tie.Need-cast-is-among
+cast-is-among c = search needs
+
+is-among-requires : tie.Need-is-among-requires
+is-among-requires c κs = search needs
 
 returns-3 : tie.Need-returns-3
-returns-3 c = sym (eqb-true _ 3 (sym (c .before .is-white-3 .ensures) ∙ c .if3 .taken))
+returns-3 c =
+    let s = c .before .before .before .before .before .before .args .s .now in
+    low-found s (omega arith) (omega arith) (sym (c .before .is-among .ensures) ∙ c .if3 .taken)
 
 returns-4 : tie.Need-returns-4
 returns-4 c =
-    sym (no-length (c .before .before .before .before .before .before .before .args .s .now)
-    (sym (c .before .before .before .before .before .is-white-1 .ensures) ∙ c .before .before .before .before .if1 .left)
-    (sym (c .before .before .before .is-white-2 .ensures) ∙ c .before .before .if2 .left)
-    (sym (c .before .is-white-3 .ensures) ∙ c .if3 .left))
+    let s = c .before .before .before .before .before .before .args .s .now in
+    low-passed s (omega arith) (omega arith) (sym (c .before .is-among .ensures) ∙ c .if3 .left)
 
 pub white-len-spec : {M : Type 1} → statement M
 white-len-spec =
     tie.close
     (tie.spec
-    is-white-1-requires
     returns
-    is-white-2-requires
+    shared-slice-read-a
+    white-len-wide-requires
     returns-2
-    is-white-3-requires
+    cast-is-among
+    is-among-requires
     returns-3
     returns-4)
