@@ -10,10 +10,10 @@ use lib.Dec.{T, eqb, eqb→eq}
 use lib.ListN.{length, take, drop, getD, length-append, length-drop, drop-of-length-le}
 use lib.Seq.{take-append-seam, drop-append-seam, take-suc, length-take-le, drop-append-le, take-take, drop-drop}
 use Rattle.rules.specs.Bytes.{LF, CR, blankByte}
-use Rattle.rules.specs.Lines.{Line, inner, without, text, blank, before, lines}
+use Rattle.rules.specs.Lines.{Line, inner, LineStart, without, text, blank, before, lines}
 use Rattle.rules.specs.Lists.{if_then_else_, All, all, join, run}
 use Rattle.rules.proofs.Lists.{is-false, all-append}
-use Rattle.rules.proofs.Lines.{join-lines, lines-suffix, lines-from, LineStart}
+use Rattle.rules.proofs.Lines.{join-lines, lines-suffix, lines-from}
 use Rattle.find.specs.Find.{behindLF, isLF, untilLF}
 use Rattle.text.specs.Lines.{firstLength, lineStart}
 
