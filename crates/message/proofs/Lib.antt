@@ -1,2 +1,3 @@
 -- What the parts of a summary answer, as document 01 says it.
 pub mod Summarised
+pub mod Again

@@ -3,15 +3,18 @@
 use mathlib.Core.Bool.{false, not}
 use mathlib.Core.List.{List, [], _∷_, _++_, map, map-append, append-assoc, append-nil}
 use mathlib.Core.Path.{_≡_, refl, sym, ap, _∙_}
-use Prim.Native.Nat.{ℕ}
+use Prim.Native.Nat.{ℕ, _+_}
+use native.Mathlib.Nat.{add-zero}
 use lib.Dec.{T, ltb}
 use lib.ListN.{length}
 use Rattle.rules.specs.Bytes.{LF, space}
 use Rattle.rules.specs.Halves.{oneSpaceBetween}
 use Rattle.rules.specs.Lines.{Line, LinesOf, none, last, line, inner, LineStart, lines}
 use Rattle.rules.specs.Lists.{All}
+use Rattle.rules.specs.Record.{part, valueOf, writtenOf}
 use Rattle.rules.specs.Trailer.{afterSpace, bySpaces, unfolded, valueIsWritten}
 use Rattle.rules.specs.White.{trim, trimAt}
+use Rattle.rules.specs.declared.Value.{Value}
 use Rattle.rules.proofs.Lines.{lines-append, lines-of, lines-only}
 use Rattle.rules.proofs.Lists.{all-append, is-false}
 use Rattle.rules.proofs.Spaces.{begins-space, ends-space, no-lf-part, no-lf-line}
@@ -116,3 +119,11 @@ unfolded-is-part raw = is-false (valueIsWritten (unfolded raw)) (one-line (unfol
 -- "unfolding an unfolded value [..] changes nothing"
 pub unfolded-twice : (raw : List ℕ) → unfolded (unfolded raw) ≡ unfolded raw
 unfolded-twice raw = unfolded-one (unfolded raw) (rw (unfolded-is-part raw) tt) ∙ unfolded-trims raw .0
+
+-- ---- so, for the calls, a value that is read as a raw value again is answered as the part that it is
+
+pub value-again : (at : ℕ) (raw : List ℕ)
+    → (writtenOf (unfolded raw) ≡ []) × (valueOf at (unfolded raw) ≡ Value.InInput (part at (at + length (unfolded raw))))
+value-again at raw =
+    let (same, front) = unfolded-trims raw in
+    (rw (unfolded-is-part raw), rw (unfolded-is-part raw, same, front, add-zero at))
