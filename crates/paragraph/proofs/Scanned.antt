@@ -13,10 +13,11 @@ use lib.ListN.{length, take, length-append}
 use lib.Seq.{take-append-seam}
 use Rattle.rules.specs.Lines.{Line, lines, text, blank, indented, folds}
 use Rattle.rules.specs.Lists.{if_then_else_, All, filled, join, starts}
-use Rattle.rules.specs.Paragraph.{cherryPicked, signedOff, recognised, leads, Group, Grouped, grouped, groupedLines, leadCount, otherCount, anyRecognised}
+use Rattle.rules.specs.Paragraph.{cherryPicked, signedOff, recognised, leads, Group, grouped, groupedLines, leadCount, otherCount, anyRecognised}
 use Rattle.rules.specs.Paragraph.{accepts, accepted, Above, nothing, atTop, under, aboveLines, solid, Body, empty, ended, bodyLines}
 use Rattle.rules.specs.Paragraph.{blockAt, startOf, onto, put, parse, blockStart}
 use Rattle.rules.specs.Trailer.{trailerLine, tokenIn, gapIn}
+use Rattle.rules.proofs.Above.{settled}
 use Rattle.rules.proofs.Lines.{filled-lines, join-lines, lines-prefix}
 use Rattle.rules.proofs.Lists.{and-right, or-cases, or-left, filled-some, is-true, is-false, join-append}
 use Rattle.rules.proofs.Paragraph.{leads-not-folds, parse-lines}
@@ -143,17 +144,6 @@ counted-within s = rw (join-lines s) at (parse-within (lines s) (filled-lines s)
 
 -- ---- a blank line above the paragraph settles it, whatever stands above
 
-settled : (us ls : List Line) (b : Line) (p : Grouped) (bs : List Line) → parse ls ≡ ended nothing p bs → T (blank b)
-    → (a : Above) × (parse (us ++ b ∷ ls) ≡ ended a p bs) × (aboveLines a ≡ us ++ b ∷ [])
-settled [] ls b p bs e t = (atTop b, rw (is-true (blank b) t, e), refl)
-settled (u ∷ us) ls b p bs e t = raised (settled us ls b p bs e t)
-  where
-    raised : (a : Above) × (parse (us ++ b ∷ ls) ≡ ended a p bs) × (aboveLines a ≡ us ++ b ∷ [])
-        → (a : Above) × (parse (u ∷ us ++ b ∷ ls) ≡ ended a p bs) × (aboveLines a ≡ u ∷ us ++ b ∷ [])
-    raised (nothing, f, g) = absurd (omega (arith, simp length-append at (ap length g)))
-    raised (atTop c, f, g) = (under [] u c, rw f, ap (λ (x : List Line). u ∷ x) g)
-    raised (under ms m c, f, g) = (under (u ∷ ms) m c, rw f, ap (λ (x : List Line). u ∷ x) g)
-
 pub closed : (end : ℕ) (us ls : List Line) (b : Line) → end ≡ length (join us) + length b
     → Open (parse ls) → counted (parse ls) .«saw_non_blank_line» ≡ true → T (blank b)
     → lastParagraph (parse (us ++ b ∷ ls)) ≡ paragraph end (counted (parse ls))
@@ -163,8 +153,8 @@ closed end us ls b q o n t = by (parse ls) refl o n
         → lastParagraph (parse (us ++ b ∷ ls)) ≡ paragraph end (counted x)
     by (empty bs) e w m = absurd (false≢true m)
     by (ended nothing (grouped top gs) bs) e w m =
-        let (a, f, g) = settled us ls b (grouped top gs) bs e t in
-        simp (q, f, g, join-append, length-append, append-nil)
+        let s = settled us (b ∷ ls) (atTop b) (grouped top gs) bs (rw (is-true (blank b) t, e)) tt in
+        simp (q, s .tree, s .all-above, join-append, length-append, append-nil)
     by (ended (atTop c) p bs) e w m = absurd w
     by (ended (under ms k c) p bs) e w m = absurd w
 
