@@ -2,9 +2,9 @@
 ghost use mathlib.Core.Path.{_≡_};
 ghost use Prim.Native.Nat.{_≤_};
 ghost use lib.ListN.{length};
-ghost use Rattle.rules.specs.Trailer.{attribution, author, isOf, lookup, only, walkFrom};
+ghost use Rattle.rules.specs.Trailer.{attribution, author, isOf, lookup, only, those, walkFrom};
 ghost use Rattle.trailer.specs.Walk.{nextOf};
-ghost use Rattle.filter.specs.Lookup.{isWanted, lookedUp, nextWanted};
+ghost use Rattle.filter.specs.Lookup.{isWanted, lookedUp};
 use rules::Kind;
 use text::fixed::eq_ignore_ascii_case;
 use trailer::walk::NextTrailer;
@@ -88,7 +88,7 @@ fn is_wanted(wanted: Wanted, name: &[u8], token: &[u8]) -> bool
 // The first trailer of the walk from `at` on whose token is wanted; the others are passed over.
 fn next_wanted(body: &[u8], at: usize, wanted: Wanted, name: &[u8]) -> NextTrailer
     requires { ⌜ at ≤ length (now body) ⌝ }
-    ensures { λ r. ⌜ r ≡ nextWanted wanted (now (name .entry)) (walkFrom (now (body .entry)) at) ⌝ }
+    ensures { λ r. ⌜ r ≡ nextOf (those (isWanted wanted (now (name .entry))) (walkFrom (now (body .entry)) at)) ⌝ }
 {
     let mut from = at;
     loop {
@@ -113,10 +113,19 @@ pub fn next_of(body: &[u8], at: usize, kind: Kind) -> NextTrailer
     next_wanted(body, at, Wanted::OfKind(kind), b"")
 }
 
-// The first trailer of the walk from `at` on that has the name.
+// The last trailer of the walk from `at` on that has the name: each that has it takes the place of the one before.
 pub fn find_named(body: &[u8], at: usize, name: &[u8]) -> NextTrailer
     requires { ⌜ at ≤ length (now body) ⌝ }
     ensures { λ r. ⌜ r ≡ lookedUp (lookup (now (name .entry)) (walkFrom (now (body .entry)) at)) ⌝ }
 {
-    next_wanted(body, at, Wanted::Named, name)
+    let mut last = NextTrailer::End;
+    let mut behind = at;
+    loop {
+        let found = next_wanted(body, behind, Wanted::Named, name);
+        let NextTrailer::Trailer(places) = found else {
+            return last;
+        };
+        last = found;
+        behind = places.end;
+    }
 }

@@ -5,15 +5,16 @@ use Prim.Native.Nat.{_-_, _≤_}
 use native.Mathlib.Omega.{arith}
 use borrow.Author.Needs.{needs}
 use lib.ListN.{length}
-use Rattle.rules.specs.Trailer.{walkFrom}
+use Rattle.rules.specs.Trailer.{those, walkFrom}
+use Rattle.trailer.specs.Walk.{nextOf}
 use Rattle.filter.proofs.Steps.{Found, found, none-wanted}
-use Rattle.filter.specs.Lookup.{nextWanted}
+use Rattle.filter.specs.Lookup.{isWanted}
 use Rattle.filter.proofs.next_wanted.Statement.{statement}
 use Rattle.filter.proofs.next_wanted.Tie as tie
 
 abbrev Inv-loop : tie.InvT-loop
 Inv-loop body at wanted name from₀ from =
-    (from ≤ length body) × (nextWanted wanted name (walkFrom body from) ≡ nextWanted wanted name (walkFrom body at))
+    (from ≤ length body) × (nextOf (those (isWanted wanted name) (walkFrom body from)) ≡ nextOf (those (isWanted wanted name) (walkFrom body at)))
 
 abbrev μ-loop : tie.MeasureT-loop
 μ-loop body at wanted name from₀ from = length body - from
@@ -34,12 +35,12 @@ returns : tie.Need-returns Inv-loop μ-loop
 returns c =
     let l = c .before .before .before in let a = l .before .before .before .args in
     let none = sym (c .before .before .next-trailer-from .ensures) ∙ c .enum-told .given .1 in
-    none-wanted (a .wanted) (a .name .now) (walkFrom (a .body .now) (l .loop .from)) none ∙ l .loop .inv .1
+    none-wanted (isWanted (a .wanted) (a .name .now)) (walkFrom (a .body .now) (l .loop .from)) none ∙ l .loop .inv .1
 
 -- what the turn's step has found
 here : (c : tie.After-found Inv-loop μ-loop) → let l = c .before .before .before in let a = l .before .before .before .args in
-    Found (a .wanted) (a .name .now) (a .body .now) (l .loop .from) (c .found .given .0 .0)
-here c = found _ _ _ _ (sym (c .before .before .next-trailer-from .ensures) ∙ c .found .given .1)
+    Found (isWanted (a .wanted) (a .name .now)) (a .body .now) (l .loop .from) (c .found .given .0 .0)
+here c = found _ _ _ (sym (c .before .before .next-trailer-from .ensures) ∙ c .found .given .1)
 
 sub-is-wanted : tie.Need-sub-is-wanted Inv-loop μ-loop
 sub-is-wanted c = omega (arith, here (c .before) .order)
