@@ -93,7 +93,8 @@ uint32_t sluicepod_message_trailers(const uint8_t *message, size_t message_len, 
 uint32_t sluicepod_next_trailer(const uint8_t *body, size_t body_len, size_t at, uint32_t kind, uint8_t *out,
                                 size_t out_len, size_t *result, size_t result_len);
 
-/* The first trailer of a body whose token is `name`, ASCII case aside; an empty name is found nowhere.
+/* The last trailer of a body whose token is `name`, ASCII case aside: of an offload that was retried, the state that
+ * holds. An empty name is found nowhere. Only that trailer's value is written, and only for it room is needed.
  * Values: the token's start, the token's end, the value's place (three); none where there is no such trailer. */
 uint32_t sluicepod_find_trailer(const uint8_t *body, size_t body_len, const uint8_t *name, size_t name_len,
                                 uint8_t *out, size_t out_len, size_t *result, size_t result_len);

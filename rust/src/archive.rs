@@ -121,7 +121,7 @@ pub fn next_trailer(body: &[u8], at: usize, kind: Kind, out: &mut [u8]) -> Resul
     })
 }
 
-/// The first trailer of a body that has the name.
+/// The last trailer of a body that has the name.
 pub fn find_trailer(body: &[u8], name: &[u8], out: &mut [u8]) -> Result<Option<Found>, Refusal> {
     let answer = ask(|result, len| unsafe {
         sluicepod_find_trailer(

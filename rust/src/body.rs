@@ -83,7 +83,7 @@ impl<'a> BodyRef<'a> {
         }
     }
 
-    /// The first trailer whose token is `name`, ASCII case aside.
+    /// The last trailer whose token is `name`, ASCII case aside: of an offload that was retried, the state that holds.
     ///
     /// An empty name is found nowhere, and neither is one longer than [`LIMIT`](crate::LIMIT), since no body has room for
     /// such a token. The original has no such call; to search the bytes of the body, ask
@@ -92,7 +92,7 @@ impl<'a> BodyRef<'a> {
     /// ```
     /// use sluicepod::BodyRef;
     ///
-    /// let body = BodyRef::from_bytes(b"Vehicle: 7\nOffload-state: complete\n")?;
+    /// let body = BodyRef::from_bytes(b"Vehicle: 7\nOffload-state: partial\nOffload-state: complete\n")?;
     /// assert_eq!(&body.find(b"offload-state").unwrap().value[..], b"complete");
     /// assert_eq!(body.find(b"Records"), None);
     /// # Ok::<(), sluicepod::Refusal>(())

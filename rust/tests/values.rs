@@ -46,6 +46,11 @@ fn found() {
     assert_eq!(held(bytes, body.find(b"c").unwrap().value), Err(b"d e".to_vec()));
     assert_eq!(body.find(b"d"), None);
     assert_eq!(body.find(b""), None);
+
+    // Of several with the name the last one is found; the others, folded or not, are passed over.
+    let bytes = b"A: 1\n 2\na: 3\nB: 4\n";
+    let body = BodyRef::from_bytes(bytes).unwrap();
+    assert_eq!(held(bytes, body.find(b"A").unwrap().value), Ok(11));
 }
 
 #[test]

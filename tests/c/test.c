@@ -113,6 +113,12 @@ static void trailers(void) {
     EXPECT(sluicepod_find_trailer(BYTES("A: b\nSigned-off-by: c\nx\nD: e\n"), BYTES("d"), OUT, RESULT), SLUICEPOD_OK, "", 5, 24, 25, 0, 27, 28);
     EXPECT(sluicepod_find_trailer(BYTES("A: b\n\t\v\n c"), BYTES("a"), OUT, RESULT), SLUICEPOD_OK, "b c", 5, 0, 1, 1, 0, 3);
     EXPECT(sluicepod_find_trailer(BYTES("A: b"), BYTES(""), OUT, RESULT), SLUICEPOD_OK, "", 0);
+    // K4: the last one speaks; the others write nothing and need no room.
+    EXPECT(sluicepod_find_trailer(BYTES("Offload-state: partial\nOffload-state: complete\n"), BYTES("offload-state"), out, 0, RESULT),
+           SLUICEPOD_OK, "", 5, 23, 36, 0, 38, 46);
+    EXPECT(sluicepod_find_trailer(BYTES("A: 1\n 2\nA: 3"), BYTES("A"), out, 0, RESULT), SLUICEPOD_OK, "", 5, 8, 9, 0, 11, 12);
+    EXPECT(sluicepod_find_trailer(BYTES("A: 1\nA: 2\n 3\n"), BYTES("a"), out, 2, RESULT), SLUICEPOD_NO_ROOM, "", 1, 3);
+    EXPECT(sluicepod_find_trailer(BYTES("A: 1\nA: 2\n 3\n"), BYTES("a"), out, 3, RESULT), SLUICEPOD_OK, "2 3", 5, 5, 6, 1, 0, 3);
     EXPECT(sluicepod_message_trailers(BYTES("t\n\nx\n\nA: b"), RESULT), SLUICEPOD_OK, "", 1, 4);
     EXPECT(sluicepod_message_trailers(BYTES("t\n\n"), RESULT), SLUICEPOD_OK, "", 1, 3);
 }

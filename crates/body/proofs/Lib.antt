@@ -1,2 +1,3 @@
 -- What a call's parts answer, as document 01 says it.
 pub mod Calls
+pub mod Examples

@@ -1,2 +1,3 @@
 -- The statements of the calls on a body: the original's body.rs.
 pub mod Body
+pub mod Examples

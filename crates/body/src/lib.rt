@@ -169,7 +169,7 @@ pub fn is_attribution(input: &[u8], token: Part) -> YesNo
     is_of_kind(input, token, Kind::Attribution)
 }
 
-// The first trailer of the body that has the name, ASCII case aside.
+// The last trailer of the body that has the name, ASCII case aside.
 pub fn find_trailer(body: &[u8], name: &[u8], out: &mut [u8]) -> TrailerFound
     ensures { λ r. ⌜ trailerFoundSays r ≡ findAnswer (now (body .entry)) (now (name .entry)) (length (now (out .entry))) ⌝ }
     ensures { λ _. ⌜ now (out .exit) ≡ findBuffer (now (body .entry)) (now (name .entry)) (now (out .entry)) ⌝ }

@@ -126,7 +126,7 @@ pub extern "C" fn sluicepod_next_trailer(
     put_step(next_trailer_of(body, Cursor { at }, kind, out), result)
 }
 
-// The first trailer of a body that has the name.
+// The last trailer of a body that has the name.
 #[no_mangle]
 pub extern "C" fn sluicepod_find_trailer(
     body: &[u8],

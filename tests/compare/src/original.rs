@@ -139,7 +139,7 @@ pub fn attribution(token: &[u8]) -> Attribution {
     }
 }
 
-/// The named lookup, which the original does not have, by document 01's sentence over the original's walk.
+/// The named lookup, which the original does not have: the last match in the original's walk.
 pub fn find(body: &[u8], name: &[u8]) -> Option<Trailer> {
     found(body, &trailers(body), name)
 }
@@ -318,7 +318,7 @@ fn with_next<'a>(input: &[u8], walked: &[Trailer], kept: impl Iterator<Item = Tr
 fn found(body: &[u8], trailers: &[Trailer], name: &[u8]) -> Option<Trailer> {
     trailers
         .iter()
-        .find(|trailer| trailer.token.of(body).eq_ignore_ascii_case(name))
+        .rfind(|trailer| trailer.token.of(body).eq_ignore_ascii_case(name))
         .cloned()
 }
 

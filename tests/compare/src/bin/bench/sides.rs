@@ -78,7 +78,8 @@ pub mod theirs {
     pub fn find(body: &[u8], name: &[u8]) -> u64 {
         let found = BodyRef::from_bytes(body)
             .trailers()
-            .find(|trailer| trailer.token.eq_ignore_ascii_case(name));
+            .filter(|trailer| trailer.token.eq_ignore_ascii_case(name))
+            .last();
         found.map_or(0, |trailer| taken(taken(0, trailer.token), &trailer.value))
     }
 
