@@ -1,3 +1,4 @@
--- Laws of lines, for those who call this crate.
+-- Laws of lines and of equal byte strings, for those who call this crate.
 pub mod Lines
 pub mod ByLines
+pub mod Equal

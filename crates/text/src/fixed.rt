@@ -1,7 +1,7 @@
 // Fixed byte strings: compared with a line's front, and without regard to ASCII case.
 ghost use mathlib.Core.Path.{_≡_};
 ghost use Rattle.rules.specs.Bytes.{lower};
-ghost use Rattle.rules.specs.Lists.{starts};
+ghost use Rattle.rules.specs.Lists.{equal, starts};
 ghost use Rattle.rules.specs.Trailer.{same};
 
 // Whether `s` starts with `p`.
@@ -19,6 +19,16 @@ pub fn starts_with(s: &[u8], p: &[u8]) -> bool
         i += 1;
     }
     true
+}
+
+// Whether two byte strings are the same.
+pub fn equals(a: &[u8], b: &[u8]) -> bool
+    ensures { λ r. ⌜ r ≡ equal (now (a .entry)) (now (b .entry)) ⌝ }
+{
+    if a.len() != b.len() {
+        return false;
+    }
+    starts_with(b, a)
 }
 
 // An ASCII capital as its small letter, every other byte as it is.

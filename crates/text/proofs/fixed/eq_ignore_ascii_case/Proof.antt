@@ -13,18 +13,13 @@ use lib.Seq.{drop-cons}
 use Rattle.rules.specs.Bytes.{lower}
 use Rattle.rules.specs.Lists.{equal}
 use Rattle.rules.specs.Trailer.{same}
+use Rattle.text.proofs.Equal.{equal-long}
 use Rattle.text.proofs.fixed.eq_ignore_ascii_case.Statement.{statement}
 use Rattle.text.proofs.fixed.eq_ignore_ascii_case.Tie as tie
 
-longer : (a b : List ℕ) → (length a ≡ length b → ⊥) → equal a b ≡ false
-longer [] [] n = absurd (n refl)
-longer [] (y ∷ b) n = refl
-longer (x ∷ a) [] n = refl
-longer (x ∷ a) (y ∷ b) n = elim (eqb x y) as (λ t. t && equal a b ≡ false) [ true ↦ longer a b (λ e. n (ap suc e)) | false ↦ refl ]
-
 differ : (a b : List ℕ) → (length a ≡ length b → ⊥) → same a b ≡ false
 unfolding same
-differ a b n = longer (map lower a) (map lower b) (λ e. n (simp length-map at e))
+differ a b n = equal-long (map lower a) (map lower b) (λ e. n (simp length-map at e))
 
 step : (a b : List ℕ) (i x y : ℕ) (alike : Bool) → i < length a → i < length b → x ≡ lower (getD a i 0) → y ≡ lower (getD b i 0)
     → alike && same (drop i a) (drop i b) ≡ (alike && eqb x y) && same (drop (i + 1) a) (drop (i + 1) b)

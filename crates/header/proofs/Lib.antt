@@ -1,0 +1,2 @@
+-- Laws of bytes and phases, for those who call this crate.
+pub mod Laws

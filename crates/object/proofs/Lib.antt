@@ -1,0 +1,2 @@
+-- Laws of a line's places, and of the answers.
+pub mod Lines

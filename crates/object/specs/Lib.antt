@@ -1,0 +1,2 @@
+-- What a caller of `line_at` knows.
+pub mod Line
