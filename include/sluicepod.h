@@ -13,14 +13,17 @@
  *     SLUICEPOD_TOO_LONG       an input is over the limit
  *     SLUICEPOD_BAD_PLACE      a position is past the input, or a range does not fit in it
  *     SLUICEPOD_NO_ROOM        `out` is shorter than what is to be written; the exact length needed is the one value
+ *     SLUICEPOD_BAD_HEADER     a commit object's header is not good; the number of the first line after which no good one is
+ *                              possible is the one value
  *     SLUICEPOD_NO_KIND        `kind` is no enum sluicepod_kind
  *     SLUICEPOD_SHORT_RESULT   `result` has fewer than SLUICEPOD_RESULT_LEN entries
- * Where several hold, the code is the first of SHORT_RESULT, NO_KIND, TOO_LONG, BAD_PLACE, NO_ROOM.
+ * Where several hold, the code is the first of SHORT_RESULT, NO_KIND, TOO_LONG, BAD_PLACE, NO_ROOM, BAD_HEADER.
  *
  * Result. The values of an answer are written to the front of `result`: result[0] says how many there are, and
  * result[1], result[2], .. are the values, in the order that each call gives below. Entries behind them are kept.
- * The refusals TOO_LONG, BAD_PLACE and NO_KIND have no values (result[0] is 0), NO_ROOM has one. SHORT_RESULT alone
- * writes nothing, neither to `result` nor to `out`. Every call asks for the same SLUICEPOD_RESULT_LEN entries.
+ * The refusals TOO_LONG, BAD_PLACE and NO_KIND have no values (result[0] is 0), NO_ROOM and BAD_HEADER have one.
+ * SHORT_RESULT alone writes nothing, neither to `result` nor to `out`. Every call asks for the same
+ * SLUICEPOD_RESULT_LEN entries.
  *
  * Out. A summary, or a trailer's value, that is not a part of the input as it stands is written to the front of `out`;
  * bytes behind it are kept, and with any code but SLUICEPOD_OK all of them are. `out` of the input's length is always
@@ -50,6 +53,7 @@ enum sluicepod_code {
     SLUICEPOD_TOO_LONG = 1,
     SLUICEPOD_BAD_PLACE = 2,
     SLUICEPOD_NO_ROOM = 3,
+    SLUICEPOD_BAD_HEADER = 13,
     SLUICEPOD_NO_KIND = 254,
     SLUICEPOD_SHORT_RESULT = 255
 };
@@ -109,6 +113,19 @@ uint32_t sluicepod_next_block(const uint8_t *body, size_t body_len, size_t at, s
 /* Whether the part of `input` from `start` up to `end` is a token of the kind. Values: 1 for yes, 0 for no. */
 uint32_t sluicepod_is_of_kind(const uint8_t *input, size_t input_len, size_t start, size_t end, uint32_t kind,
                               size_t *result, size_t result_len);
+
+/* A line of a commit object's header. `content` is the object's content, as `git cat-file commit` prints it: lines of a name, a
+ * space and a content, `tree`, parents, `author` and `committer` first, then an empty line and the message. Lines that start with a
+ * space continue the one above, and are one with it. `number` counts from 0. The header is judged whole before a line is
+ * answered, in time that grows with its length.
+ * Values: the name's start, the name's end, the content's start, the content's end, continued content as it stands and without its
+ * last LF; none where the header has no such line. */
+uint32_t sluicepod_header_line(const uint8_t *content, size_t content_len, size_t number, size_t *result,
+                               size_t result_len);
+
+/* The message of a commit object: what is behind the header's empty line. Hand that part of the content to the calls above.
+ * Values: the message's start, the message's end, which is the content's. */
+uint32_t sluicepod_commit_message(const uint8_t *content, size_t content_len, size_t *result, size_t result_len);
 
 #ifdef __cplusplus
 }

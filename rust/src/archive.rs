@@ -167,6 +167,24 @@ pub fn is_of_kind(token: &[u8], kind: Kind) -> Result<bool, Refusal> {
     Ok(yes == 1)
 }
 
+/// Where the name and the content of a header line stand, if there is one of the number.
+pub fn header_line(content: &[u8], number: usize) -> Result<Option<(Range<usize>, Range<usize>)>, Refusal> {
+    let answer = ask(|result, len| unsafe {
+        sluicepod_header_line(content.as_ptr(), content.len(), number, result, len)
+    })?;
+    Ok(match answer {
+        [4, name_start, name_end, start, end, ..] => Some((name_start..name_end, start..end)),
+        _ => None,
+    })
+}
+
+/// Where the message of a commit object stands.
+pub fn commit_message(content: &[u8]) -> Result<Range<usize>, Refusal> {
+    let [_, start, end, ..] =
+        ask(|result, len| unsafe { sluicepod_commit_message(content.as_ptr(), content.len(), result, len) })?;
+    Ok(start..end)
+}
+
 /// How many entries the calls ask of `result`: the first says how many values there are, and they follow it.
 const RESULT_LEN: usize = 16;
 
@@ -178,6 +196,7 @@ fn ask(call: impl FnOnce(*mut usize, usize) -> u32) -> Result<[usize; RESULT_LEN
         1 => Err(Refusal::TooLong),
         2 => Err(Refusal::BadPlace),
         3 => Err(Refusal::NoRoom { needed: result[1] }),
+        13 => Err(Refusal::BadHeader { line: result[1] }),
         // The two others are for a number that is no `Kind` and for fewer entries than RESULT_LEN.
         code => unreachable!("the archive's code {}", code),
     }
@@ -248,4 +267,12 @@ extern "C" {
         result: *mut usize,
         result_len: usize,
     ) -> u32;
+    fn sluicepod_header_line(
+        content: *const u8,
+        content_len: usize,
+        number: usize,
+        result: *mut usize,
+        result_len: usize,
+    ) -> u32;
+    fn sluicepod_commit_message(content: *const u8, content_len: usize, result: *mut usize, result_len: usize) -> u32;
 }

@@ -4,8 +4,10 @@ use crate::LIMIT;
 
 /// Why a call gave no answer.
 ///
-/// The calls of this crate give [`TooLong`](Refusal::TooLong) alone: they keep their positions themselves, and make room
-/// for what is written. The other two are those of the archive's calls, which have the same numbers.
+/// The calls of this crate that read a message give [`TooLong`](Refusal::TooLong) alone: they keep their positions themselves, and
+/// make room for what is written. [`BadPlace`](Refusal::BadPlace) and [`NoRoom`](Refusal::NoRoom) are those of the archive's calls,
+/// which have the same numbers. [`CommitObject::from_bytes`](crate::CommitObject::from_bytes) gives
+/// [`BadHeader`](Refusal::BadHeader) too.
 #[derive(Clone, Copy, Debug, PartialEq, Eq, Hash)]
 pub enum Refusal {
     /// An input is longer than [`LIMIT`].
@@ -17,15 +19,22 @@ pub enum Refusal {
         /// The length that is needed, in bytes; no shorter one will do.
         needed: usize,
     },
+    /// A commit object's header is not good.
+    BadHeader {
+        /// The number of the first line after which no good header is possible, counted from 0; a line with those that continue
+        /// it is one.
+        line: usize,
+    },
 }
 
 impl Refusal {
-    /// The refusal's number: 1, 2 or 3, in the order above.
+    /// The refusal's number: 1, 2, 3 or 13, in the order above.
     pub fn number(&self) -> u32 {
         match self {
             Refusal::TooLong => 1,
             Refusal::BadPlace => 2,
             Refusal::NoRoom { .. } => 3,
+            Refusal::BadHeader { .. } => 13,
         }
     }
 }
@@ -36,6 +45,7 @@ impl fmt::Display for Refusal {
             Refusal::TooLong => write!(f, "the input is longer than {} bytes", LIMIT),
             Refusal::BadPlace => write!(f, "the position or range is not in the input"),
             Refusal::NoRoom { needed } => write!(f, "the buffer is too short: {} bytes are needed", needed),
+            Refusal::BadHeader { line } => write!(f, "the header is not a commit object's: line {} is at fault", line),
         }
     }
 }

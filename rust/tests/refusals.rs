@@ -47,10 +47,19 @@ fn what_is_over_the_limit_by_hand() {
 
 #[test]
 fn numbers_and_words() {
-    let refusals = [Refusal::TooLong, Refusal::BadPlace, Refusal::NoRoom { needed: 5 }];
-    assert_eq!(refusals.map(|refusal| refusal.number()), [1, 2, 3]);
+    let refusals = [
+        Refusal::TooLong,
+        Refusal::BadPlace,
+        Refusal::NoRoom { needed: 5 },
+        Refusal::BadHeader { line: 4 },
+    ];
+    assert_eq!(refusals.map(|refusal| refusal.number()), [1, 2, 3, 13]);
     let words: Box<dyn Error> = Box::new(refusals[0]);
     assert_eq!(words.to_string(), "the input is longer than 1048576 bytes");
     assert_eq!(refusals[1].to_string(), "the position or range is not in the input");
     assert_eq!(refusals[2].to_string(), "the buffer is too short: 5 bytes are needed");
+    assert_eq!(
+        refusals[3].to_string(),
+        "the header is not a commit object's: line 4 is at fault"
+    );
 }

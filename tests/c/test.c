@@ -1,4 +1,4 @@
-/* The calls of include/sluicepod.h, through the archive: document 01's cases by their numbers, a walk, and the refusals.
+/* The calls of include/sluicepod.h, through the archive: document 01's cases by their numbers, a walk, the refusals, and commit objects.
  * Each check gives a call, the code that it must return, what it must write to the front of `out`, and what to the front
  * of `result`: how many values there are, and the values. All behind that must be as it was. */
 #include <stdio.h>
@@ -232,6 +232,8 @@ static void short_results(void) {
     }
 }
 
+#include "commits.h"
+
 int main(void) {
     titles_and_summaries();
     starts_and_blocks();
@@ -241,6 +243,7 @@ int main(void) {
     places_and_room();
     limit();
     short_results();
+    commits();
     printf("tests/c: %d checks, %d failed\n", checks, failures);
     return failures != 0;
 }

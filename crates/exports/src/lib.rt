@@ -1,5 +1,7 @@
 // The public calls for C and Rust, as numbers and slices: include/sluicepod.h says how they are called there. Each makes one
 // call of crates/body or crates/message and puts the numbers of its answer into `result`.
+pub mod commits;
+
 ghost use mathlib.Core.Path.{_≡_};
 ghost use lib.ListN.{length};
 ghost use Rattle.body.specs.Body.{blockAnswer, findAnswer, findBuffer, startAnswer};
@@ -33,7 +35,7 @@ use rules::Cursor;
 use rules::Part;
 
 // The code where `result` is too short.
-const SHORT_RESULT: u32 = 255;
+pub const SHORT_RESULT: u32 = 255;
 
 // The code of a number that is no kind's.
 const NO_KIND: u32 = 254;

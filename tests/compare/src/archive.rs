@@ -11,6 +11,7 @@ pub const OK: u32 = 0;
 pub const TOO_LONG: u32 = 1;
 pub const BAD_PLACE: u32 = 2;
 pub const NO_ROOM: u32 = 3;
+pub const BAD_HEADER: u32 = 13;
 pub const NO_KIND: u32 = 254;
 pub const SHORT_RESULT: u32 = 255;
 
@@ -90,6 +91,19 @@ mod declared {
             start: usize,
             end: usize,
             kind: u32,
+            result: *mut usize,
+            result_len: usize,
+        ) -> u32;
+        pub fn sluicepod_header_line(
+            content: *const u8,
+            content_len: usize,
+            number: usize,
+            result: *mut usize,
+            result_len: usize,
+        ) -> u32;
+        pub fn sluicepod_commit_message(
+            content: *const u8,
+            content_len: usize,
             result: *mut usize,
             result_len: usize,
         ) -> u32;
@@ -181,4 +195,20 @@ pub fn is_of_kind(input: &[u8], start: usize, end: usize, kind: u32, result: &mu
             result.len(),
         )
     }
+}
+
+pub fn header_line(content: &[u8], number: usize, result: &mut [usize]) -> u32 {
+    unsafe {
+        declared::sluicepod_header_line(
+            content.as_ptr(),
+            content.len(),
+            number,
+            result.as_mut_ptr(),
+            result.len(),
+        )
+    }
+}
+
+pub fn commit_message(content: &[u8], result: &mut [usize]) -> u32 {
+    unsafe { declared::sluicepod_commit_message(content.as_ptr(), content.len(), result.as_mut_ptr(), result.len()) }
 }

@@ -14,6 +14,8 @@ pub mod answers;
 #[cfg(feature = "archive")]
 pub mod archive;
 pub mod buffers;
+#[cfg(feature = "archive")]
+pub mod commits;
 pub mod git;
 pub mod inputs;
 pub mod original;

@@ -1,12 +1,14 @@
 //! Times the original and the port on the same inputs, in one run.
 //!
 //!     bench              a line for each call on each shape: nanoseconds of both, and how many times faster the port is
-//!     bench --markdown   these ratios in two tables, a row for each shape
+//!     bench --markdown   these ratios in two tables, a row for each shape, and one for the headers of commit objects
+//!     bench commits      the headers of commit objects alone
 //!
 //! The two sides take turns; the figures are medians over the rounds. Before anything is timed, the two must agree in all
 //! answers about every shape.
 
 mod calls;
+mod commits;
 #[cfg(feature = "libgit2")]
 mod libgit2;
 mod race;
@@ -29,6 +31,7 @@ fn main() -> ExitCode {
     let print = match &words.iter().map(String::as_str).collect::<Vec<_>>()[..] {
         [] => plain,
         ["--markdown"] => markdown,
+        ["commits"] => |_: &[Shape]| commit_table(),
         _ => {
             eprintln!("bench: no such option");
             return ExitCode::FAILURE;
@@ -61,6 +64,15 @@ fn plain(shapes: &[Shape]) {
             );
         }
     }
+    for commits::Row { header, call, race } in commits::rows() {
+        println!(
+            "{:<34} {header:<34} {:>12.1} {:>12.1} {:>8.2}",
+            format!("{call}, beside a search for LFs"),
+            race.original,
+            race.ours,
+            race.ratio
+        );
+    }
 }
 
 fn markdown(shapes: &[Shape]) {
@@ -68,6 +80,18 @@ fn markdown(shapes: &[Shape]) {
     println!();
     table(calls::BODY_CALLS, shapes, of_body);
     println!("\n`*` the port needs less than {CALL_NS} ns: this is what a call costs, and hardly anything is read.");
+    commit_table();
+}
+
+/// Headers of commit objects: how many times as long as a search for their LFs each call takes.
+fn commit_table() {
+    let rows = commits::rows();
+    println!("\n| header of 1 MiB | {} |", commits::CALLS.join(" | "));
+    println!("|---|{}", "---:|".repeat(commits::CALLS.len()));
+    for rows in rows.chunks(commits::CALLS.len()) {
+        let cells: Vec<String> = rows.iter().map(|row| format!("{:.2}", 1.0 / row.race.ratio)).collect();
+        println!("| {} | {} |", rows[0].header, cells.join(" | "));
+    }
 }
 
 /// Below this time the cost of the call outweighs what it reads.
