@@ -13,8 +13,8 @@
  *     SLUICEPOD_TOO_LONG       an input is over the limit
  *     SLUICEPOD_BAD_PLACE      a position is past the input, or a range does not fit in it
  *     SLUICEPOD_NO_ROOM        `out` is shorter than what is to be written; the exact length needed is the one value
- *     SLUICEPOD_BAD_HEADER     a commit object's header is not good; the number of the first line after which no good one is
- *                              possible is the one value
+ *     SLUICEPOD_BAD_HEADER     a commit object's header is not good; the number of the first line after which no good
+ *                              one is possible is the one value
  *     SLUICEPOD_NO_KIND        `kind` is no enum sluicepod_kind
  *     SLUICEPOD_SHORT_RESULT   `result` has fewer than SLUICEPOD_RESULT_LEN entries
  * Where several hold, the code is the first of SHORT_RESULT, NO_KIND, TOO_LONG, BAD_PLACE, NO_ROOM, BAD_HEADER.
@@ -114,17 +114,17 @@ uint32_t sluicepod_next_block(const uint8_t *body, size_t body_len, size_t at, s
 uint32_t sluicepod_is_of_kind(const uint8_t *input, size_t input_len, size_t start, size_t end, uint32_t kind,
                               size_t *result, size_t result_len);
 
-/* A line of a commit object's header. `content` is the object's content, as `git cat-file commit` prints it: lines of a name, a
- * space and a content, `tree`, parents, `author` and `committer` first, then an empty line and the message. Lines that start with a
- * space continue the one above, and are one with it. `number` counts from 0. The header is judged whole before a line is
- * answered, in time that grows with its length.
- * Values: the name's start, the name's end, the content's start, the content's end, continued content as it stands and without its
- * last LF; none where the header has no such line. */
+/* A line of a commit object's header. `content` is the object's content, as `git cat-file commit` prints it: lines of a
+ * name, a space and a content, `tree`, parents, `author` and `committer` first, then an empty line and the message. Lines
+ * that start with a space continue the one above, and are one with it. `number` counts from 0. The header is judged whole
+ * before a line is answered, in time that grows with its length.
+ * Values: the name's start, the name's end, the content's start, the content's end, continued content as it stands and
+ * without its last LF; none where the header has no such line. */
 uint32_t sluicepod_header_line(const uint8_t *content, size_t content_len, size_t number, size_t *result,
                                size_t result_len);
 
-/* The message of a commit object: what is behind the header's empty line. Hand that part of the content to the calls above.
- * Values: the message's start, the message's end, which is the content's. */
+/* The message of a commit object: what is behind the header's empty line. Hand that part of the content to the calls
+ * above. Values: the message's start, the message's end, which is the content's. */
 uint32_t sluicepod_commit_message(const uint8_t *content, size_t content_len, size_t *result, size_t result_len);
 
 #ifdef __cplusplus

@@ -169,9 +169,8 @@ pub fn is_of_kind(token: &[u8], kind: Kind) -> Result<bool, Refusal> {
 
 /// Where the name and the content of a header line stand, if there is one of the number.
 pub fn header_line(content: &[u8], number: usize) -> Result<Option<(Range<usize>, Range<usize>)>, Refusal> {
-    let answer = ask(|result, len| unsafe {
-        sluicepod_header_line(content.as_ptr(), content.len(), number, result, len)
-    })?;
+    let answer =
+        ask(|result, len| unsafe { sluicepod_header_line(content.as_ptr(), content.len(), number, result, len) })?;
     Ok(match answer {
         [4, name_start, name_end, start, end, ..] => Some((name_start..name_end, start..end)),
         _ => None,

@@ -3,8 +3,8 @@ use crate::{archive, Refusal};
 /// A commit object's content, as `git cat-file commit` prints it: a header with a good form, and a message.
 ///
 /// The header has lines of a name, a space and a content: first `tree`, then any number of `parent`, then `author` and
-/// `committer`, then lines of any other names. A line that starts with a space continues the other line above it. An empty line
-/// ends the header; behind it is the message. Identifiers are all 40 or all 64 lower-case hex digits.
+/// `committer`, then lines of any other names. A line that starts with a space continues the other line above it. An
+/// empty line ends the header; behind it is the message. Identifiers are all 40 or all 64 lower-case hex digits.
 ///
 /// ```
 /// use sluicepod::{message_trailers, CommitObject};
@@ -35,8 +35,8 @@ pub struct CommitObject<'a> {
 pub struct HeaderLine<'a> {
     /// What stands before the first space.
     pub name: &'a [u8],
-    /// What stands behind that space, without the LF at its end. Continued content is as it stands: the LF and the space before
-    /// each line that continues it are in it.
+    /// What stands behind that space, without the LF at its end. Continued content is as it stands: the LF and the
+    /// space before each line that continues it are in it.
     pub content: &'a [u8],
 }
 
@@ -45,8 +45,8 @@ impl<'a> CommitObject<'a> {
     ///
     /// # Errors
     ///
-    /// [`Refusal::TooLong`], where the content is longer than [`LIMIT`](crate::LIMIT); [`Refusal::BadHeader`], with the number of
-    /// the first line after which no good header is possible.
+    /// [`Refusal::TooLong`], where the content is longer than [`LIMIT`](crate::LIMIT); [`Refusal::BadHeader`], with the
+    /// number of the first line after which no good header is possible.
     pub fn from_bytes(content: &'a [u8]) -> Result<Self, Refusal> {
         let message = archive::commit_message(content)?;
         Ok(CommitObject {

@@ -4,10 +4,10 @@ use crate::LIMIT;
 
 /// Why a call gave no answer.
 ///
-/// The calls of this crate that read a message give [`TooLong`](Refusal::TooLong) alone: they keep their positions themselves, and
-/// make room for what is written. [`BadPlace`](Refusal::BadPlace) and [`NoRoom`](Refusal::NoRoom) are those of the archive's calls,
-/// which have the same numbers. [`CommitObject::from_bytes`](crate::CommitObject::from_bytes) gives
-/// [`BadHeader`](Refusal::BadHeader) too.
+/// The calls of this crate that read a message give [`TooLong`](Refusal::TooLong) alone: they keep their positions
+/// themselves, and make room for what is written. [`BadPlace`](Refusal::BadPlace) and [`NoRoom`](Refusal::NoRoom) are
+/// those of the archive's calls, which have the same numbers.
+/// [`CommitObject::from_bytes`](crate::CommitObject::from_bytes) gives [`BadHeader`](Refusal::BadHeader) too.
 #[derive(Clone, Copy, Debug, PartialEq, Eq, Hash)]
 pub enum Refusal {
     /// An input is longer than [`LIMIT`].
@@ -21,8 +21,8 @@ pub enum Refusal {
     },
     /// A commit object's header is not good.
     BadHeader {
-        /// The number of the first line after which no good header is possible, counted from 0; a line with those that continue
-        /// it is one.
+        /// The number of the first line after which no good header is possible, counted from 0; a line with those that
+        /// continue it is one.
         line: usize,
     },
 }

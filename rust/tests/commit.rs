@@ -58,5 +58,8 @@ fn one_byte_more_than_the_limit_is_refused() {
     assert_eq!(CommitObject::from_bytes(&bytes), Err(Refusal::TooLong));
     bytes[0] = b'x';
     assert_eq!(CommitObject::from_bytes(&bytes), Err(Refusal::TooLong));
-    assert_eq!(CommitObject::from_bytes(&bytes[..LIMIT]), Err(Refusal::BadHeader { line: 0 }));
+    assert_eq!(
+        CommitObject::from_bytes(&bytes[..LIMIT]),
+        Err(Refusal::BadHeader { line: 0 })
+    );
 }

@@ -48,7 +48,7 @@ table =
     line 0 (forty "tree " (bytes "\nauthor \ncommitter \nx y\n z\nq\n\n")) (bad 4) ∷
     []
 
--- others, whose answers a program gives that was written from document 02 by another hand
+-- further ones: smallest contents at each way in which a header is not good, both lengths of identifiers, and messages
 unfoldable pub others : List Example
 others =
     line 0 (bytes "") (bad 0) ∷

@@ -26,7 +26,7 @@ pub fn list(fd: i32) {
 }
 
 // Prints how many trailers a message has, and then each.
-fn print_listing(message: &[u8])
+pub fn print_listing(message: &[u8])
     requires { ⌜ length (now message) ≤ 32768 ⌝ }
 {
     let WalkFound::From(start) = message_trailers(message) else {

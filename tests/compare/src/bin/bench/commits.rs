@@ -1,35 +1,51 @@
-//! Commit objects with headers of a mebibyte, beside a search for the header's LFs: one for each line, up to the empty line.
+//! Commit objects with headers of a mebibyte, beside a search for the header's LFs, one for each line, up to the empty line: by
+//! the archive's own search, which is what `title_and_body` does there, and by memchr's.
 
 use std::hint::black_box;
 
-use compare::{answers::LIMIT, commits};
+use compare::{answers::LIMIT, archive, commits};
 use original::bstr::ByteSlice;
 
 use crate::race::{race, Race};
 
-/// A call on a header, and how it did beside the search.
+/// A call on a header, and how it did beside a search.
 pub struct Row {
     pub header: &'static str,
     pub call: &'static str,
     pub race: Race,
 }
 
-/// The calls, in order.
-pub const CALLS: &[&str] = &["message", "last line"];
+/// The calls and what each is beside, in order.
+pub const CALLS: &[&str] = &[
+    "message",
+    "last line",
+    "message, beside memchr",
+    "last line, beside memchr",
+];
 
 /// The first line of what fills each header, and the line that it goes on with.
 const HEADERS: &[(&str, &[u8], &[u8])] = &[
     (
-        "65-byte continued lines",
-        b"gpgsig a\n",
-        b" iQEzBAABCAAdFiEEu7bus7nightABCDEFGHIJKLMNOPQRSTUVWXYZabcdefghij\n",
+        "a signature's lines",
+        b"gpgsig -----BEGIN PGP SIGNATURE-----\n",
+        b" iQEzBAABCAAdFiEEu7bus7nightABCDEFGHIJKLMNOPQRSTUVWXYZabcdefghijk\n",
     ),
     ("3-byte continued lines", b"x a\n", b" a\n"),
     ("4-byte lines", b"x a\n", b"x a\n"),
     (
+        "65-byte continued lines",
+        b"x a\n",
+        b" abcdefghi abcdefghi abcdefghi abcdefghi abcdefghi abcdefghi abc\n",
+    ),
+    (
         "65-byte lines",
         b"x a\n",
-        b"encoding ABCDEFGHIJKLMNOPQRSTUVWXYZabcdefghijklmnopqrstuvwxyz012\n",
+        b"x abcdefghi abcdefghi abcdefghi abcdefghi abcdefghi abcdefghi ab\n",
+    ),
+    (
+        "70-byte lines",
+        b"x a\n",
+        b"x abcdefghi abcdefghi abcdefghi abcdefghi abcdefghi abcdefghi abcdefg\n",
     ),
 ];
 
@@ -53,8 +69,18 @@ pub fn rows() -> Vec<Row> {
                 race: race.unwrap_or_else(|| panic!("{header}: the two find another message")),
             });
         };
-        add("message", race(|| lfs(black_box(content)), || message(black_box(content))));
-        add("last line", race(|| lfs(black_box(content)), || last_line(black_box(content), last)));
+        let lines = || lfs(black_box(content));
+        let words = || memchr_lfs(black_box(content));
+        let ours = || message(black_box(content));
+        let ours_last = || last_line(black_box(content), last);
+        for (&call, race) in CALLS.iter().zip([
+            race(lines, ours),
+            race(lines, ours_last),
+            race(words, ours),
+            race(words, ours_last),
+        ]) {
+            add(call, race);
+        }
     }
     rows
 }
@@ -69,9 +95,20 @@ fn filled(front: &[u8], unit: &[u8], end: &[u8]) -> Vec<u8> {
     content
 }
 
-/// Where the message starts, by a search for each line's LF.
+/// Where the message starts, by the archive's search for the title's end, which goes from LF to LF.
 #[inline(never)]
 fn lfs(content: &[u8]) -> u64 {
+    let mut result = [0; archive::RESULT_LEN];
+    archive::title_and_body(content, &mut result);
+    if result[0] == 2 {
+        return result[2] as u64;
+    }
+    content.len() as u64
+}
+
+/// Where the message starts, by memchr's search for each line's LF.
+#[inline(never)]
+fn memchr_lfs(content: &[u8]) -> u64 {
     let mut at = 0;
     while let Some(len) = content[at..].find_byte(b'\n') {
         if len == 0 {

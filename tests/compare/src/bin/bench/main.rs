@@ -67,7 +67,7 @@ fn plain(shapes: &[Shape]) {
     for commits::Row { header, call, race } in commits::rows() {
         println!(
             "{:<34} {header:<34} {:>12.1} {:>12.1} {:>8.2}",
-            format!("{call}, beside a search for LFs"),
+            format!("commit object: {call}"),
             race.original,
             race.ours,
             race.ratio

@@ -25,16 +25,32 @@ pub fn fill(repository: &Repository) -> io::Result<()> {
     for message in MESSAGES {
         for options in [&["commit-tree"][..], &["commit-tree", "-S"]] {
             let parents: Vec<&str> = made.iter().rev().take(1).flat_map(|id| ["-p", id]).collect();
-            made.push(commit(repository, &[options, &parents[..], &[&tree]].concat(), message)?);
+            made.push(commit(
+                repository,
+                &[options, &parents[..], &[&tree]].concat(),
+                message,
+            )?);
         }
     }
     for count in [2, 5] {
         let parents: Vec<&str> = made.iter().rev().take(count).flat_map(|id| ["-p", id]).collect();
-        made.push(commit(repository, &[&["commit-tree"], &parents[..], &[&tree]].concat(), b"merged\n")?);
+        made.push(commit(
+            repository,
+            &[&["commit-tree"], &parents[..], &[&tree]].concat(),
+            b"merged\n",
+        )?);
     }
     for encoding in ["ISO-8859-1", "Shift_JIS"] {
         let setting = format!("i18n.commitEncoding={encoding}");
-        let words = ["-c", &setting, "commit-tree", "-S", "-p", made.last().expect("one"), &tree];
+        let words = [
+            "-c",
+            &setting,
+            "commit-tree",
+            "-S",
+            "-p",
+            made.last().expect("one"),
+            &tree,
+        ];
         made.push(commit(repository, &words, b"B\xe9b\xe9\n\nA: \xe9\n")?);
     }
     repository.git(&["update-ref", "refs/heads/made", made.last().expect("one")], b"")?;
@@ -48,7 +64,10 @@ fn commit(repository: &Repository, words: &[&str], message: &[u8]) -> io::Result
 /// A merge of a signed tag keeps the tag in the header.
 fn merge_a_tag(repository: &Repository, tree: &str, made: &[String]) -> io::Result<()> {
     let side = repository.word(&["commit-tree", "-p", &made[0], tree], b"side\n")?;
-    repository.git(&["tag", "-s", "-m", "Night of bus 7\n\nTwo lines.", "night", &side], b"")?;
+    repository.git(
+        &["tag", "-s", "-m", "Night of bus 7\n\nTwo lines.", "night", &side],
+        b"",
+    )?;
     repository.git(&["checkout", "--quiet", "made"], b"")?;
     repository.git(&["merge", "--quiet", "--no-ff", "--no-edit", "-S", "night"], b"")?;
     Ok(())

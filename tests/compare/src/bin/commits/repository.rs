@@ -109,7 +109,14 @@ impl Repository {
             .env("HOME", "/nonexistent")
             .env("GIT_CONFIG_NOSYSTEM", "1")
             .env("GIT_CONFIG_GLOBAL", "/dev/null")
-            .args(["-c", "safe.directory=*", "-c", "user.name=A. Driver", "-c", "user.email=a@depot.example"]);
+            .args([
+                "-c",
+                "safe.directory=*",
+                "-c",
+                "user.name=A. Driver",
+                "-c",
+                "user.email=a@depot.example",
+            ]);
         if self.made {
             git.arg("-c").arg(format!("gpg.program={}", self.signer().display()));
         }

@@ -66,7 +66,9 @@ fn rows(letters: &Letters) -> Vec<Row> {
         .lines()
         .filter_map(|line| {
             let cells: Vec<&'static str> = line.strip_prefix("| ")?.strip_suffix(" |")?.split(" | ").collect();
-            let [what, content, ours, log, fsck] = cells[..] else { return None };
+            let [what, content, ours, log, fsck] = cells[..] else {
+                return None;
+            };
             content.starts_with('`').then(|| Row {
                 what,
                 content: spelt(content, letters),
@@ -95,7 +97,11 @@ fn spelt(cell: &str, letters: &Letters) -> Vec<u8> {
                 });
             }
         } else {
-            let text = piece.replace("\\n", "\n").replace("\\r", "\r").replace("\\t", "\t").replace("\\0", "\0");
+            let text = piece
+                .replace("\\n", "\n")
+                .replace("\\r", "\r")
+                .replace("\\t", "\t")
+                .replace("\\0", "\0");
             out.extend_from_slice(text.as_bytes());
         }
     }
@@ -112,7 +118,10 @@ fn ours(content: &[u8]) -> String {
 
 /// Whether `git log` reads the object, and what `git fsck` finds in it.
 fn git(repository: &Repository, content: &[u8]) -> io::Result<(String, String)> {
-    let id = repository.word(&["hash-object", "-t", "commit", "-w", "--literally", "--stdin"], content)?;
+    let id = repository.word(
+        &["hash-object", "-t", "commit", "-w", "--literally", "--stdin"],
+        content,
+    )?;
     let (read, _) = repository.try_git(&["log", "-1", "--format=%T", &id], b"")?;
     if !read {
         return Ok(("refuses".to_owned(), "none".to_owned()));
