@@ -1,4 +1,4 @@
-/* Sluicepod: the trailers, blocks, title and summary of a commit message.
+/* Sluicepod: the trailers, blocks, title and summary of a commit message, and who signed it.
  *
  * Link libexports.a, which tests/archive makes for the machine at hand.
  *
@@ -15,15 +15,17 @@
  *     SLUICEPOD_NO_ROOM        `out` is shorter than what is to be written; the exact length needed is the one value
  *     SLUICEPOD_BAD_HEADER     a commit object's header is not good; the number of the first line after which no good
  *                              one is possible is the one value
+ *     SLUICEPOD_NOT_A_MAILBOX  the value is no mailbox; the place where none goes on is the one value
+ *     SLUICEPOD_NINTH_COMMENT  the same, where a comment is opened inside eight others
  *     SLUICEPOD_NO_KIND        `kind` is no enum sluicepod_kind
  *     SLUICEPOD_SHORT_RESULT   `result` has fewer than SLUICEPOD_RESULT_LEN entries
- * Where several hold, the code is the first of SHORT_RESULT, NO_KIND, TOO_LONG, BAD_PLACE, NO_ROOM, BAD_HEADER.
+ * Where several hold, the code is the first of SHORT_RESULT, NO_KIND, TOO_LONG, BAD_PLACE, NO_ROOM, BAD_HEADER,
+ * NOT_A_MAILBOX.
  *
  * Result. The values of an answer are written to the front of `result`: result[0] says how many there are, and
  * result[1], result[2], .. are the values, in the order that each call gives below. Entries behind them are kept.
- * The refusals TOO_LONG, BAD_PLACE and NO_KIND have no values (result[0] is 0), NO_ROOM and BAD_HEADER have one.
- * SHORT_RESULT alone writes nothing, neither to `result` nor to `out`. Every call asks for the same
- * SLUICEPOD_RESULT_LEN entries.
+ * The refusals TOO_LONG, BAD_PLACE and NO_KIND have no values (result[0] is 0), the others have one. SHORT_RESULT alone
+ * writes nothing, neither to `result` nor to `out`. Every call asks for the same SLUICEPOD_RESULT_LEN entries.
  *
  * Out. A summary, or a trailer's value, that is not a part of the input as it stands is written to the front of `out`;
  * bytes behind it are kept, and with any code but SLUICEPOD_OK all of them are. `out` of the input's length is always
@@ -54,6 +56,8 @@ enum sluicepod_code {
     SLUICEPOD_BAD_PLACE = 2,
     SLUICEPOD_NO_ROOM = 3,
     SLUICEPOD_BAD_HEADER = 13,
+    SLUICEPOD_NOT_A_MAILBOX = 14,
+    SLUICEPOD_NINTH_COMMENT = 15,
     SLUICEPOD_NO_KIND = 254,
     SLUICEPOD_SHORT_RESULT = 255
 };
@@ -126,6 +130,13 @@ uint32_t sluicepod_header_line(const uint8_t *content, size_t content_len, size_
 /* The message of a commit object: what is behind the header's empty line. Hand that part of the content to the calls
  * above. Values: the message's start, the message's end, which is the content's. */
 uint32_t sluicepod_commit_message(const uint8_t *content, size_t content_len, size_t *result, size_t result_len);
+
+/* The name and the address of an unfolded value that is an RFC 5322 mailbox with angle brackets, as `A B <a@b>`. The name
+ * runs from the first word's start to the last one's end, and is empty at the `<` where there are no words; the address
+ * runs from the first dot-atom's start to the second's end. Quotes, and white space and comments inside, belong to them.
+ * Values: the name's start and end, the address's start and end. With NOT_A_MAILBOX and NINTH_COMMENT: the place of the
+ * first byte with which no mailbox goes on, or the value's length. */
+uint32_t sluicepod_mailbox(const uint8_t *value, size_t value_len, size_t *result, size_t result_len);
 
 #ifdef __cplusplus
 }

@@ -184,6 +184,13 @@ pub fn commit_message(content: &[u8]) -> Result<Range<usize>, Refusal> {
     Ok(start..end)
 }
 
+/// Where the name and the address of a mailbox stand in the value.
+pub fn mailbox(value: &[u8]) -> Result<(Range<usize>, Range<usize>), Refusal> {
+    let [_, name_start, name_end, start, end, ..] =
+        ask(|result, len| unsafe { sluicepod_mailbox(value.as_ptr(), value.len(), result, len) })?;
+    Ok((name_start..name_end, start..end))
+}
+
 /// How many entries the calls ask of `result`: the first says how many values there are, and they follow it.
 const RESULT_LEN: usize = 16;
 
@@ -196,6 +203,8 @@ fn ask(call: impl FnOnce(*mut usize, usize) -> u32) -> Result<[usize; RESULT_LEN
         2 => Err(Refusal::BadPlace),
         3 => Err(Refusal::NoRoom { needed: result[1] }),
         13 => Err(Refusal::BadHeader { line: result[1] }),
+        14 => Err(Refusal::NotAMailbox { at: result[1] }),
+        15 => Err(Refusal::NinthComment { at: result[1] }),
         // The two others are for a number that is no `Kind` and for fewer entries than RESULT_LEN.
         code => unreachable!("the archive's code {}", code),
     }
@@ -274,4 +283,5 @@ extern "C" {
         result_len: usize,
     ) -> u32;
     fn sluicepod_commit_message(content: *const u8, content_len: usize, result: *mut usize, result_len: usize) -> u32;
+    fn sluicepod_mailbox(value: *const u8, value_len: usize, result: *mut usize, result_len: usize) -> u32;
 }

@@ -7,7 +7,7 @@
 //! - The calls that are given bytes answer with a [`Result`]: they refuse input longer than [`LIMIT`].
 //! - Bytes are `[u8]`, not `BStr`: the crate has no dependencies.
 //! - `CommitRef::message_summary()` and `CommitRef::message_trailers()` are functions that take the commit's message.
-//! - [`BodyRef::find`], [`BodyRef::trailer_start`] and [`CommitObject`] are added.
+//! - [`BodyRef::find`], [`BodyRef::trailer_start`] and [`CommitObject`] are added, and [`mailbox`], which tells who signed.
 //!
 //! A value that is a part of the input is borrowed, and one that had to be written is owned. No input makes a call panic.
 //!
@@ -26,12 +26,14 @@
 mod archive;
 mod body;
 mod commit;
+mod mailbox;
 mod message;
 mod refusal;
 mod value;
 
 pub use body::{BodyRef, MessageBlock, MessageBlocks, TrailerRef, Trailers};
 pub use commit::{CommitObject, HeaderLine};
+pub use mailbox::{mailbox, Mailbox};
 pub use message::{message_summary, message_trailers, MessageRef};
 pub use refusal::Refusal;
 

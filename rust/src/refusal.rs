@@ -4,10 +4,8 @@ use crate::LIMIT;
 
 /// Why a call gave no answer.
 ///
-/// The calls of this crate that read a message give [`TooLong`](Refusal::TooLong) alone: they keep their positions
-/// themselves, and make room for what is written. [`BadPlace`](Refusal::BadPlace) and [`NoRoom`](Refusal::NoRoom) are
-/// those of the archive's calls, which have the same numbers.
-/// [`CommitObject::from_bytes`](crate::CommitObject::from_bytes) gives [`BadHeader`](Refusal::BadHeader) too.
+/// The calls of this crate keep their positions themselves, and make room for what is written: so they never give
+/// [`BadPlace`](Refusal::BadPlace) and [`NoRoom`](Refusal::NoRoom), which are those of the archive's calls.
 #[derive(Clone, Copy, Debug, PartialEq, Eq, Hash)]
 pub enum Refusal {
     /// An input is longer than [`LIMIT`].
@@ -25,16 +23,28 @@ pub enum Refusal {
         /// continue it is one.
         line: usize,
     },
+    /// The value is no mailbox.
+    NotAMailbox {
+        /// The place of the first byte with which no mailbox goes on, or the value's length.
+        at: usize,
+    },
+    /// The value is no mailbox: a ninth comment is opened inside eight.
+    NinthComment {
+        /// The place of its bracket.
+        at: usize,
+    },
 }
 
 impl Refusal {
-    /// The refusal's number: 1, 2, 3 or 13, in the order above.
+    /// The refusal's number, as the documents and the C header have it: 1, 2, 3, 13, 14 or 15, in the order above.
     pub fn number(&self) -> u32 {
         match self {
             Refusal::TooLong => 1,
             Refusal::BadPlace => 2,
             Refusal::NoRoom { .. } => 3,
             Refusal::BadHeader { .. } => 13,
+            Refusal::NotAMailbox { .. } => 14,
+            Refusal::NinthComment { .. } => 15,
         }
     }
 }
@@ -46,6 +56,8 @@ impl fmt::Display for Refusal {
             Refusal::BadPlace => write!(f, "the position or range is not in the input"),
             Refusal::NoRoom { needed } => write!(f, "the buffer is too short: {} bytes are needed", needed),
             Refusal::BadHeader { line } => write!(f, "the header is not a commit object's: line {} is at fault", line),
+            Refusal::NotAMailbox { at } => write!(f, "no mailbox goes on at byte {}", at),
+            Refusal::NinthComment { at } => write!(f, "a ninth comment is opened inside eight at byte {}", at),
         }
     }
 }

@@ -233,6 +233,7 @@ static void short_results(void) {
 }
 
 #include "commits.h"
+#include "mailbox.c"
 
 int main(void) {
     titles_and_summaries();
@@ -244,6 +245,7 @@ int main(void) {
     limit();
     short_results();
     commits();
+    mailboxes();
     printf("tests/c: %d checks, %d failed\n", checks, failures);
     return failures != 0;
 }

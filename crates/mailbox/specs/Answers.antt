@@ -1,23 +1,10 @@
 -- What `mailbox` answers, in numbers and values: document 02, K14, "Answer two ranges" and "Refusals, after 1".
-use mathlib.Core.Bool.{Bool}
 use mathlib.Core.List.{List, [], _∷_}
 use Prim.Native.Nat.{ℕ}
-use Rattle.rules.specs.Answers.{Said, says, overLimit}
-use Rattle.rules.specs.Lists.{if_then_else_, any}
+use Rattle.rules.specs.Answers.{Said, says, judged, tooLong}
 use Rattle.mailbox.specs.Grammar.{ranges, Answer, accepted, refused}
 use Rattle.mailbox.specs.Reader.{mailbox}
 use Rattle.mailbox.specs.declared.MailboxFound.{MailboxFound}
-
--- the refusal table as rows: a test, and what is said where it holds; the first row that holds decides
-pub data Row : Type 0 where
-  row : Bool → Said → Row
-
-abbrev pub judged : List Row → Said → Said
-judged [] answer = answer
-judged (row fires said ∷ rows) answer = if fires then said else judged rows answer
-
-abbrev pub tooLong : List (List ℕ) → Row
-tooLong inputs = row (any overLimit inputs) (says 1 [])
 
 -- the name's start and end, the address's start and end; 14 and 15 "with the place"
 abbrev pub answerSays : Answer → Said
