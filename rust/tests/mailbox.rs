@@ -13,10 +13,7 @@ fn examples() {
     assert_eq!(found(b"A\"B\"C<a@b>"), Ok((&b"A\"B\"C"[..], &b"a@b"[..])));
     assert_eq!(found(b"A. B <a@b>"), Err(Refusal::NotAMailbox { at: 1 }));
     assert_eq!(found(b"\"A <a@b>"), Err(Refusal::NotAMailbox { at: 8 }));
-    assert_eq!(
-        found(b"(((((((((x)))))))))<a@b>"),
-        Err(Refusal::NinthComment { at: 8 })
-    );
+    assert_eq!(found(b"(((((((((x)))))))))<a@b>"), Err(Refusal::NinthComment { at: 8 }));
     assert_eq!(found(b"\"\\\x7f\" <a@b>"), Err(Refusal::NotAMailbox { at: 2 }));
     assert_eq!(found(b"A <a..b@c>"), Err(Refusal::NotAMailbox { at: 5 }));
 }
@@ -44,5 +41,8 @@ fn numbers_and_words() {
     let refusals = [Refusal::NotAMailbox { at: 3 }, Refusal::NinthComment { at: 8 }];
     assert_eq!(refusals.map(|refusal| refusal.number()), [14, 15]);
     assert_eq!(refusals[0].to_string(), "no mailbox goes on at byte 3");
-    assert_eq!(refusals[1].to_string(), "a ninth comment is opened inside eight at byte 8");
+    assert_eq!(
+        refusals[1].to_string(),
+        "a ninth comment is opened inside eight at byte 8"
+    );
 }

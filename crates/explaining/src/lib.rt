@@ -1,5 +1,5 @@
 // The reading of one message, printed: title, body, each line of the last paragraph with its kind, what is counted, the
-// block start and the blocks. Places are counted in the body.
+// block start and the blocks, and who signed. Places are counted in the body.
 ghost use mathlib.Core.Path.{_≡_};
 ghost use Prim.Native.Nat.{_*_, _^_, _<_, _≤_};
 ghost use lib.ListN.{length};
@@ -12,6 +12,7 @@ use paragraph::accepts_as_trailer_block;
 use paragraph::is_recognized_prefix;
 use paragraph::last_paragraph;
 use paragraph::trailer_block_start;
+use signers::print_signers;
 use text::line::is_blank_line;
 use text::line::is_indented;
 use text::line::line_len;
@@ -99,6 +100,7 @@ fn print_reading(message: &[u8])
     let body_start = places.body_start;
     print_title_and_body(places.title_end, body_start, message.len());
     print_body(&message[body_start..]);
+    print_signers(message);
 }
 
 // Prints where the title and the body of a message stand that has `len` bytes.

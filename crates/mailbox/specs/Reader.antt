@@ -7,25 +7,27 @@ use lib.Dec.{eqb}
 use Rattle.rules.specs.Lists.{if_then_else_}
 use Rattle.mailbox.specs.Grammar.{whiteByte, atext, quoteText, commentText, takes, Ranges, ranges, Answer, accepted, refused, deepest}
 
--- the words so far: none, or from, to
+-- the words so far: none; or some, with the first one's start and the last one's end
 pub data Named : Type 0 where
   none : Named
   some : ℕ → ℕ → Named
 
--- a dot-atom is the first, behind names from, to; or the second, behind names from, to and an address from
+-- which dot-atom is read: the first, with the start and the end of the words; or the second, with the address's start too
 pub data Half : Type 0 where
   local : ℕ → ℕ → Half
   domain : ℕ → ℕ → ℕ → Half
 
--- where white space and comments may stand: before a word or `<`; before a dot-atom; behind a dot-atom from, to; behind `>`
+-- where white space and comments may stand: before a word or the `<`; before a dot-atom; behind a dot-atom, with its start and its
+-- end; behind the `>`, with the answer
 pub data Home : Type 0 where
   names : Named → Home
   opened : Half → Home
   behind : Half → ℕ → ℕ → Home
   closed : Ranges → Home
 
--- in a word from; in quotes; behind a backslash there; in a dot-atom from; behind its dot; in a comment in which d more may
--- be opened and which is itself inside k; behind a backslash there; dead, with the number and the place
+-- What has been read leads to one of these states: where white space and comments may stand; in an atom, in quotes, behind a
+-- backslash there, each with the first word's start; in a dot-atom, behind one of its dots, each with its start; in a comment in which
+-- d more may be opened and which stands in k others, behind a backslash there; dead, with the refusal's number and place.
 pub data State : Type 0 where
   home : Home → State
   atom quote quoteTaken : ℕ → State
@@ -33,6 +35,7 @@ pub data State : Type 0 where
   inside insideTaken : Home → ℕ → ℕ → State
   dead : ℕ → ℕ → State
 
+-- the words' start and end, if they begin, or would begin, at a place
 abbrev pub fromOf : Named → ℕ → ℕ
 fromOf none at = at
 fromOf (some from to) at = from
@@ -41,7 +44,7 @@ abbrev pub toOf : Named → ℕ → ℕ
 toOf none at = at
 toOf (some from to) at = to
 
--- what ends a half, and what is then
+-- the sign that follows a dot-atom, and where the reader is then
 abbrev pub signOf : Half → ℕ
 signOf (local n m) = 64
 signOf (domain n m from) = 62
@@ -50,7 +53,7 @@ abbrev pub next : Half → ℕ → ℕ → Home
 next (local n m) from to = opened (domain n m from)
 next (domain n m from) at to = closed (ranges n m from to)
 
--- a comment opens, of which d may, inside k
+-- a comment is opened, where d may be, in k others; one is closed
 abbrev pub opening : ℕ → Home → ℕ → ℕ → State
 opening at h zero k = dead 15 at
 opening at h (suc d) k = inside h d k
@@ -59,7 +62,7 @@ abbrev pub closing : Home → ℕ → ℕ → State
 closing h d zero = home h
 closing h d (suc k) = inside h (suc d) k
 
--- a byte that is no white space and opens no comment
+-- a byte that is no white space and opens no comment, where these may stand
 abbrev pub begin : ℕ → Home → ℕ → State
 begin at (names v) c =
     if atext c then atom (fromOf v at) else
@@ -69,9 +72,11 @@ begin at (opened half) c = if atext c then text half at else dead 14 at
 begin at (behind half from to) c = if eqb c (signOf half) then home (next half from to) else dead 14 at
 begin at (closed r) c = dead 14 at
 
+-- any byte there
 abbrev pub spaced : ℕ → ℕ → Home → ℕ → State
 spaced deep at h c = if whiteByte c then home h else if eqb c 40 then opening at h deep 0 else begin at h c
 
+-- the state behind a byte
 abbrev pub step : ℕ → ℕ → State → ℕ → State
 step deep at (home h) c = spaced deep at h c
 step deep at (atom from) c = if atext c then atom from else spaced deep at (names (some from at)) c
@@ -92,6 +97,7 @@ step deep at (inside h d k) c =
 step deep at (insideTaken h d k) c = if takes c then inside h d k else dead 14 at
 step deep at (dead number place) c = dead number place
 
+-- the answer at the value's end
 abbrev pub finish : ℕ → State → Answer
 finish at (home (names v)) = refused 14 at
 finish at (home (opened half)) = refused 14 at
@@ -106,7 +112,7 @@ finish at (inside h d k) = refused 14 at
 finish at (insideTaken h d k) = refused 14 at
 finish at (dead number place) = refused number place
 
--- what is read from a place on
+-- the answer to what is read from a place on, in a state
 abbrev pub read : ℕ → ℕ → State → List ℕ → Answer
 read deep at st [] = finish at st
 read deep at st (c ∷ s) = read deep (suc at) (step deep at st c) s

@@ -85,6 +85,7 @@ mod declared {
             result: *mut usize,
             result_len: usize,
         ) -> u32;
+        pub fn sluicepod_mailbox(value: *const u8, value_len: usize, result: *mut usize, result_len: usize) -> u32;
         pub fn sluicepod_is_of_kind(
             input: *const u8,
             input_len: usize,
@@ -211,4 +212,8 @@ pub fn header_line(content: &[u8], number: usize, result: &mut [usize]) -> u32 {
 
 pub fn commit_message(content: &[u8], result: &mut [usize]) -> u32 {
     unsafe { declared::sluicepod_commit_message(content.as_ptr(), content.len(), result.as_mut_ptr(), result.len()) }
+}
+
+pub fn mailbox(value: &[u8], result: &mut [usize]) -> u32 {
+    unsafe { declared::sluicepod_mailbox(value.as_ptr(), value.len(), result.as_mut_ptr(), result.len()) }
 }

@@ -55,7 +55,8 @@ comment-end-returns : (t : ℕ) → comment-end-lts.Need-returns (
 comment-end-returns t c =
     let l = c .before .before .before .before in
     let a = l .before .before .args in
-    text-refused (a .s .now) (a .allowed) (a .at) (l .loop .i) (c .before .before .text-end .result) (l .loop .inv .2) (c .before .before .text-end .ensures) (c .if1 .taken) (l .loop .inv .0)
+    text-refused (a .s .now) (a .allowed) (a .at) (l .loop .i) (c .before .before .text-end .result) (l .loop .inv .2)
+    (c .before .before .text-end .ensures) (c .if1 .taken) (l .loop .inv .0)
 
 -- behind the text: what is read from `at` on is what is read from the text's end on
 passed : (t : ℕ) (c : comment-end-lts.Else1 (
@@ -141,7 +142,8 @@ comment-end-returns-4 t c =
     let a = e .before .before .before .before .before .before .args in
     let p = e .before .before .text-end .result .at in
     let f = passed t e in
-    other (a .s .now) (a .allowed) (a .at) p (f .0) (f .1) (omega (arith, f .3)) (e .before .before .text-end .ensures .stops (e .if1 .left)) (c .before .if3 .left) (c .if4 .taken)
+    other (a .s .now) (a .allowed) (a .at) p (f .0) (f .1) (omega (arith, f .3))
+    (e .before .before .text-end .ensures .stops (e .if1 .left)) (c .before .if3 .left) (c .if4 .taken)
 
 comment-end-returns-5 : (t : ℕ) → comment-end-lts.Need-returns-5 (
   text-end-reads.Asked,
@@ -201,7 +203,9 @@ comment-end-returns-6 t c =
     let a = e .before .before .before .before .before .before .args in
     let p = e .before .before .text-end .result .at in
     let f = passed t e in
-    inner-refused (a .s .now) (a .allowed) (a .at) p (f .0) (f .1) (a .allowed - 1) (c .before .before .comment-end .result) (omega (arith, f .3)) (c .before .before .before .before .if4 .left) (omega arith) (c .before .before .comment-end .ensures) (c .if6 .taken)
+    inner-refused (a .s .now) (a .allowed) (a .at) p (f .0) (f .1) (a .allowed - 1) (c .before .before .comment-end .result)
+    (omega (arith, f .3)) (c .before .before .before .before .if4 .left) (omega arith) (c .before .before .comment-end .ensures)
+    (c .if6 .taken)
 
 comment-end-loop-less : (t : ℕ) → comment-end-lts.Need-loop-less (
   text-end-reads.Asked,

@@ -45,7 +45,8 @@ moves c =
     let a = l .before .before .args in
     let x = c .before .before .before .before .gap-step in
     let m = gap-moves (a .s .now) (a .at) (l .loop .i) (x .result) (l .loop .inv .2) (l .loop .inv .0) (search needs) (x .ensures) in (
-      gap-on (a .s .now) (a .at) (l .loop .i) (x .result) (l .loop .inv .2) (l .loop .inv .0) (search needs) (x .ensures) (c .before .before .if1 .left),
+      gap-on (a .s .now) (a .at) (l .loop .i) (x .result) (l .loop .inv .2) (l .loop .inv .0) (search needs) (x .ensures)
+          (c .before .before .if1 .left),
       m .0,
       m .1,
     )

@@ -26,7 +26,8 @@ returns c =
     let l = c .before .before .before in
     let a = l .before .before .args in
     let n = c .before .text-width in
-    text-stops (a .quoted) (a .s .now) (a .at) (l .loop .i) (n .result) (l .loop .inv .0) (l .loop .inv .2) (search needs) (n .ensures) (c .if1 .taken)
+    text-stops (a .quoted) (a .s .now) (a .at) (l .loop .i) (n .result) (l .loop .inv .0) (l .loop .inv .2) (search needs)
+    (n .ensures) (c .if1 .taken)
 
 add-t8 : tie.Need-add-t8 Inv-loop μ-loop
 add-t8 c = search needs
@@ -48,7 +49,8 @@ turn c =
     let l = c .before .before .before .before in
     let a = l .before .before .args in
     let n = c .before .before .text-width in
-    text-passes (a .quoted) (a .s .now) (a .at) (l .loop .i) (n .result) (l .loop .inv .0) (l .loop .inv .2) (search needs) (n .ensures) (c .before .if1 .left) (c .if2 .left)
+    text-passes (a .quoted) (a .s .now) (a .at) (l .loop .i) (n .result) (l .loop .inv .0) (l .loop .inv .2) (search needs)
+    (n .ensures) (c .before .if1 .left) (c .if2 .left)
 
 add-i : tie.Need-add-i Inv-loop μ-loop
 add-i c = let b = turn c .1 in search needs

@@ -29,6 +29,9 @@ part-print-body-end c = search needs
 print-body-requires : tie.Need-print-body-requires
 print-body-requires c κs = search needs
 
+print-signers-requires : tie.Need-print-signers-requires
+print-signers-requires c κs = search needs
+
 returns : tie.Need-returns
 returns c = search needs
 
@@ -42,4 +45,5 @@ print-reading-spec =
     part-print-body-start
     part-print-body-end
     print-body-requires
+    print-signers-requires
     returns)

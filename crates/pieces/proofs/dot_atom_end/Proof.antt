@@ -30,7 +30,8 @@ returns : tie.Need-returns Inv-loop μ-loop
 returns c =
     let l = c .before .before .before .before in
     let a = l .before .before .args in
-    dot-dies (a .s .now) (a .at) (l .loop .i) (l .loop .inv .2) (l .loop .inv .0) (search needs) (sym (c .before .is-atext .ensures) ∙ not-true _ (c .if1 .taken))
+    dot-dies (a .s .now) (a .at) (l .loop .i) (l .loop .inv .2) (l .loop .inv .0) (search needs)
+    (sym (c .before .is-atext .ensures) ∙ not-true _ (c .if1 .taken))
 
 add-run-end : tie.Need-add-run-end Inv-loop μ-loop
 add-run-end c = search needs

@@ -32,7 +32,8 @@ returns-2 c =
     let d = c .before .before in
     let g = d .before .before .before in
     let a = g .before .before .args in
-    half-dots-refused (a .s .now) (a .at) (a .sign) (g .gap-end .result .at) (before-dots (d .before)) (d .dot-atom-end .result) (d .dot-atom-end .ensures) (c .if2 .taken)
+    half-dots-refused (a .s .now) (a .at) (a .sign) (g .gap-end .result .at) (before-dots (d .before)) (d .dot-atom-end .result)
+    (d .dot-atom-end .ensures) (c .if2 .taken)
 
 behind-dots : (c : tie.Else2) →
     let d = c .before .before in
@@ -43,7 +44,8 @@ behind-dots c =
     let d = c .before .before in
     let g = d .before .before .before in
     let a = g .before .before .args in
-    half-behind (a .s .now) (a .at) (a .sign) (g .gap-end .result .at) (before-dots (d .before)) (d .dot-atom-end .result) (d .dot-atom-end .ensures) (c .if2 .left)
+    half-behind (a .s .now) (a .at) (a .sign) (g .gap-end .result .at) (before-dots (d .before)) (d .dot-atom-end .result)
+    (d .dot-atom-end .ensures) (c .if2 .left)
 
 gap-end-requires-2 : tie.Need-gap-end-requires-2
 gap-end-requires-2 c κs = search needs
@@ -54,7 +56,8 @@ returns-3 c =
     let d = h .before .before .before in
     let g = d .before .before .before in
     let a = g .before .before .args in
-    half-second-refused (a .s .now) (a .at) (a .sign) (g .gap-end .result .at) (d .dot-atom-end .result .at) (behind-dots (h .before)) (h .gap-end2 .result) (h .gap-end2 .ensures) (c .if3 .taken)
+    half-second-refused (a .s .now) (a .at) (a .sign) (g .gap-end .result .at) (d .dot-atom-end .result .at)
+    (behind-dots (h .before)) (h .gap-end2 .result) (h .gap-end2 .ensures) (c .if3 .taken)
 
 behind-gap : (c : tie.Else3) →
     let h = c .before .before in
@@ -67,7 +70,8 @@ behind-gap c =
     let d = h .before .before .before in
     let g = d .before .before .before in
     let a = g .before .before .args in
-    half-second (a .s .now) (a .at) (a .sign) (g .gap-end .result .at) (d .dot-atom-end .result .at) (behind-dots (h .before)) (h .gap-end2 .result) (h .gap-end2 .ensures) (c .if3 .left)
+    half-second (a .s .now) (a .at) (a .sign) (g .gap-end .result .at) (d .dot-atom-end .result .at) (behind-dots (h .before))
+    (h .gap-end2 .result) (h .gap-end2 .ensures) (c .if3 .left)
 
 returns-4 : tie.Need-returns-4
 returns-4 c =
@@ -75,7 +79,8 @@ returns-4 c =
     let d = h .before .before .before in
     let g = d .before .before .before in
     let a = g .before .before .args in
-    half-over (a .s .now) (a .at) (a .sign) (g .gap-end .result .at) (d .dot-atom-end .result .at) (h .gap-end2 .result .at) (behind-gap (c .before)) (omega arith) (h .gap-end2 .ensures .within)
+    half-over (a .s .now) (a .at) (a .sign) (g .gap-end .result .at) (d .dot-atom-end .result .at) (h .gap-end2 .result .at)
+    (behind-gap (c .before)) (omega arith) (h .gap-end2 .ensures .within)
 
 shared-slice-read-if5 : tie.Need-shared-slice-read-if5
 shared-slice-read-if5 c = search needs
@@ -88,7 +93,8 @@ returns-5 c =
     let g = d .before .before .before in
     let a = g .before .before .args in
     let x = h .gap-end2 .ensures in
-    half-other (a .s .now) (a .at) (a .sign) (g .gap-end .result .at) (d .dot-atom-end .result .at) (h .gap-end2 .result .at) (behind-gap third) (omega (arith, x .within)) (x .stops (third .if3 .left)) (c .if5 .taken)
+    half-other (a .s .now) (a .at) (a .sign) (g .gap-end .result .at) (d .dot-atom-end .result .at) (h .gap-end2 .result .at)
+    (behind-gap third) (omega (arith, x .within)) (x .stops (third .if3 .left)) (c .if5 .taken)
 
 add-t9 : tie.Need-add-t9
 add-t9 c = search needs
@@ -102,7 +108,8 @@ returns-6 c =
     let a = g .before .before .args in
     let gap = rw (found-end (g .gap-end .result) (d .before .if1 .left)) at (g .gap-end .ensures) in
     let dots = rw (found-end (d .dot-atom-end .result) (h .before .if2 .left)) at (d .dot-atom-end .ensures) in
-    half-sign (a .s .now) (a .at) (a .sign) (g .gap-end .result .at) (d .dot-atom-end .result .at) (h .gap-end2 .result .at) (behind-gap third) gap dots (omega (arith, h .gap-end2 .ensures .within)) (c .if5 .left)
+    half-sign (a .s .now) (a .at) (a .sign) (g .gap-end .result .at) (d .dot-atom-end .result .at) (h .gap-end2 .result .at)
+    (behind-gap third) gap dots (omega (arith, h .gap-end2 .ensures .within)) (c .if5 .left)
 
 pub half-end-spec : {M : Type 1} → statement M
 half-end-spec =

@@ -38,7 +38,8 @@ returns-2 c =
     let word = c .before .before in
     let l = word .before .before in
     let g = l .before .before .before in
-    word-refused (g .before .before .args .s .now) (g .gap-end .result .at) (l .loop .to) (l .loop .i) (l .loop .inv .2) (word .word-end .result) (search needs) (word .word-end .ensures) (c .if2 .taken)
+    word-refused (g .before .before .args .s .now) (g .gap-end .result .at) (l .loop .to) (l .loop .i) (l .loop .inv .2)
+    (word .word-end .result) (search needs) (word .word-end .ensures) (c .if2 .taken)
 
 shared-slice-read-if4 : tie.Need-shared-slice-read-if4 Inv-loop μ-loop
 shared-slice-read-if4 c = search needs
@@ -49,7 +50,8 @@ returns-3 c =
     let word = none .before .before .before .before in
     let l = word .before .before in
     let g = l .before .before .before in
-    no-less (g .before .before .args .s .now) (g .gap-end .result .at) (l .loop .to) (l .loop .i) (l .loop .inv .2) (word .word-end .result) (search needs) (word .word-end .ensures) (l .loop .inv .1) (none .if3 .taken) (c .if4 .taken)
+    no-less (g .before .before .args .s .now) (g .gap-end .result .at) (l .loop .to) (l .loop .i) (l .loop .inv .2)
+    (word .word-end .result) (search needs) (word .word-end .ensures) (l .loop .inv .1) (none .if3 .taken) (c .if4 .taken)
 
 add-t14 : tie.Need-add-t14 Inv-loop μ-loop
 add-t14 c = search needs
@@ -89,7 +91,8 @@ returns-5 c =
     let gap = c .before .before in
     let word = gap .before .before .before .before .before in
     let g = word .before .before .before .before .before in
-    gap-refused (g .before .before .args .s .now) (g .gap-end .result .at) (word .word-end .result .at) (passed (gap .before) .0) (gap .gap-end2 .result) (gap .gap-end2 .ensures) (c .if5 .taken)
+    gap-refused (g .before .before .args .s .now) (g .gap-end .result .at) (word .word-end .result .at) (passed (gap .before) .0)
+    (gap .gap-end2 .result) (gap .gap-end2 .ensures) (c .if5 .taken)
 
 loop-less : tie.Need-loop-less Inv-loop μ-loop
 loop-less c =
@@ -105,14 +108,16 @@ loop-again c =
     let h = gap .gap-end2 in (
       h .ensures .within,
       h .ensures .stops (c .if5 .left),
-      gap-passed (g .before .before .args .s .now) (g .gap-end .result .at) (word .word-end .result .at) (passed (gap .before) .0) (h .result) (h .ensures) (c .if5 .left),
+      gap-passed (g .before .before .args .s .now) (g .gap-end .result .at) (word .word-end .result .at) (passed (gap .before) .0)
+          (h .result) (h .ensures) (c .if5 .left),
     )
 
 returns-6 : tie.Need-returns-6 Inv-loop μ-loop
 returns-6 c =
     let l = c .before in
     let g = l .before .before .before in
-    names-over (g .before .before .args .s .now) (g .gap-end .result .at) (l .loop .to) (l .loop .i) (l .loop .inv .2) (c .loop-test .left) (l .loop .inv .0)
+    names-over (g .before .before .args .s .now) (g .gap-end .result .at) (l .loop .to) (l .loop .i) (l .loop .inv .2)
+    (c .loop-test .left) (l .loop .inv .0)
 
 pub names-end-spec : {M : Type 1} → statement M
 names-end-spec =

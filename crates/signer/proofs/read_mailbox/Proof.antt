@@ -49,7 +49,8 @@ no-local c =
     let l = c .before .before in
     let n = l .before .before .before in
     let found = n .names-end .result in
-    half-not (n .before .before .args .value .now) (local (found .from) (found .to)) (found .at) (after-names (l .before)) (l .half-end .result) (l .half-end .ensures) (c .if2 .taken)
+    half-not (n .before .before .args .value .now) (local (found .from) (found .to)) (found .at) (after-names (l .before))
+    (l .half-end .result) (l .half-end .ensures) (c .if2 .taken)
 
 refused-requires-2 : tie.Need-refused-requires-2
 refused-requires-2 c κs = refused-so _ _ _ (no-local c)
@@ -66,7 +67,8 @@ after-local c =
     let l = c .before .before in
     let n = l .before .before .before in
     let found = n .names-end .result in
-    half-found (n .before .before .args .value .now) (local (found .from) (found .to)) (found .at) (after-names (l .before)) (l .half-end .result) (l .half-end .ensures) (c .if2 .left)
+    half-found (n .before .before .args .value .now) (local (found .from) (found .to)) (found .at) (after-names (l .before))
+    (l .half-end .result) (l .half-end .ensures) (c .if2 .left)
 
 half-end-requires-2 : tie.Need-half-end-requires-2
 half-end-requires-2 c κs = c .before .before .half-end .ensures .within
@@ -82,7 +84,8 @@ no-domain c =
     let l = d .before .before .before in
     let n = l .before .before .before in
     let found = n .names-end .result in
-    half-not (n .before .before .args .value .now) (domain (found .from) (found .to) (l .half-end .result .from)) (l .half-end .result .at) (after-local (d .before)) (d .half-end2 .result) (d .half-end2 .ensures) (c .if3 .taken)
+    half-not (n .before .before .args .value .now) (domain (found .from) (found .to) (l .half-end .result .from))
+    (l .half-end .result .at) (after-local (d .before)) (d .half-end2 .result) (d .half-end2 .ensures) (c .if3 .taken)
 
 refused-requires-3 : tie.Need-refused-requires-3
 refused-requires-3 c κs = refused-so _ _ _ (no-domain c)
@@ -95,13 +98,15 @@ after-domain : (c : tie.Else3) →
     let l = d .before .before .before in
     let n = l .before .before .before in
     let found = n .names-end .result in
-    SameWhole (n .before .before .args .value .now) (closed (ranges (found .from) (found .to) (l .half-end .result .from) (d .half-end2 .result .to))) (d .half-end2 .result .at)
+    SameWhole (n .before .before .args .value .now)
+    (closed (ranges (found .from) (found .to) (l .half-end .result .from) (d .half-end2 .result .to))) (d .half-end2 .result .at)
 after-domain c =
     let d = c .before .before in
     let l = d .before .before .before in
     let n = l .before .before .before in
     let found = n .names-end .result in
-    half-found (n .before .before .args .value .now) (domain (found .from) (found .to) (l .half-end .result .from)) (l .half-end .result .at) (after-local (d .before)) (d .half-end2 .result) (d .half-end2 .ensures) (c .if3 .left)
+    half-found (n .before .before .args .value .now) (domain (found .from) (found .to) (l .half-end .result .from))
+    (l .half-end .result .at) (after-local (d .before)) (d .half-end2 .result) (d .half-end2 .ensures) (c .if3 .left)
 
 gap-end-requires : tie.Need-gap-end-requires
 gap-end-requires c κs = c .before .before .half-end2 .ensures .within
@@ -118,7 +123,9 @@ no-gap c =
     let l = d .before .before .before in
     let n = l .before .before .before in
     let found = n .names-end .result in
-    after-not (n .before .before .args .value .now) (found .from) (found .to) (l .half-end .result .from) (d .half-end2 .result .to) (d .half-end2 .result .at) (after-domain (g .before)) (g .gap-end .result) (g .gap-end .ensures) (c .if4 .taken)
+    after-not (n .before .before .args .value .now) (found .from) (found .to) (l .half-end .result .from)
+    (d .half-end2 .result .to) (d .half-end2 .result .at) (after-domain (g .before)) (g .gap-end .result) (g .gap-end .ensures)
+    (c .if4 .taken)
 
 refused-requires-4 : tie.Need-refused-requires-4
 refused-requires-4 c κs = refused-so _ _ _ (no-gap c)
@@ -136,7 +143,9 @@ more c =
     let l = d .before .before .before in
     let n = l .before .before .before in
     let found = n .names-end .result in
-    more-behind (n .before .before .args .value .now) (found .from) (found .to) (l .half-end .result .from) (d .half-end2 .result .to) (d .half-end2 .result .at) (after-domain (g .before)) (g .gap-end .result) (g .gap-end .ensures) (c .before .before .if4 .left) (c .if5 .taken)
+    more-behind (n .before .before .args .value .now) (found .from) (found .to) (l .half-end .result .from)
+    (d .half-end2 .result .to) (d .half-end2 .result .at) (after-domain (g .before)) (g .gap-end .result) (g .gap-end .ensures)
+    (c .before .before .if4 .left) (c .if5 .taken)
 
 refused-requires-5 : tie.Need-refused-requires-5
 refused-requires-5 c κs = inl refl

@@ -4,6 +4,8 @@
 //!     bench --markdown   these ratios in two tables, a row for each shape, and one for the headers of commit objects
 //!     bench commits      the headers of commit objects alone
 //!
+//! The mailbox call, which the original does not have, is timed by itself, on a mebibyte and on half of it.
+//!
 //! The two sides take turns; the figures are medians over the rounds. Before anything is timed, the two must agree in all
 //! answers about every shape.
 
@@ -11,6 +13,7 @@ mod calls;
 mod commits;
 #[cfg(feature = "libgit2")]
 mod libgit2;
+mod mailbox;
 mod race;
 mod shapes;
 mod sides;
@@ -73,12 +76,24 @@ fn plain(shapes: &[Shape]) {
             race.ratio
         );
     }
+    for (name, half, whole) in mailbox::rows() {
+        println!(
+            "{:<34} {name:<34} {:>12} {whole:>12.1} {:>8.2}",
+            "mailbox, by half of it",
+            "",
+            whole / half
+        );
+    }
 }
 
 fn markdown(shapes: &[Shape]) {
     table(calls::MESSAGE_CALLS, shapes, of_message);
     println!();
     table(calls::BODY_CALLS, shapes, of_body);
+    println!("\n| mailbox | µs | by half of it |\n|---|---:|---:|");
+    for (name, half, whole) in mailbox::rows() {
+        println!("| {name} | {:.0} | {:.2} |", whole / 1_000.0, whole / half);
+    }
     println!("\n`*` the port needs less than {CALL_NS} ns: this is what a call costs, and hardly anything is read.");
     commit_table();
 }

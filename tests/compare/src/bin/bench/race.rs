@@ -39,6 +39,13 @@ pub fn race(mut original: impl FnMut() -> u64, mut ours: impl FnMut() -> u64) ->
     })
 }
 
+/// The median over the rounds of work that takes no turns: nanoseconds.
+pub fn alone(mut work: impl FnMut() -> u64) -> f64 {
+    let (often, slow) = often_enough(&mut work);
+    let rounds = if slow { SLOW_ROUNDS } else { ROUNDS };
+    median((0..rounds).map(|_| round(often, &mut work)).collect())
+}
+
 /// How often work must be done to fill a round, and whether once is slow.
 fn often_enough(work: &mut impl FnMut() -> u64) -> (usize, bool) {
     let mut often = 1;
