@@ -1,0 +1,4 @@
+// Reports the bundle on standard input.
+fn main() {
+    reporting::report(libc::STDIN_FILENO);
+}
