@@ -13,6 +13,7 @@
  *     SLUICEPOD_TOO_LONG       an input is over the limit
  *     SLUICEPOD_BAD_PLACE      a position is past the input, or a range does not fit in it
  *     SLUICEPOD_NO_ROOM        `out` is shorter than what is to be written; the exact length needed is the one value
+ *     SLUICEPOD_NOT_A_BUNDLE   bytes that are no bundle, or more than SLUICEPOD_BUNDLE_MOST messages to write
  *     SLUICEPOD_BAD_HEADER     a commit object's header is not good; the number of the first line after which no good
  *                              one is possible is the one value
  *     SLUICEPOD_NOT_A_MAILBOX  the value is no mailbox; the place where none goes on is the one value
@@ -20,12 +21,13 @@
  *     SLUICEPOD_NO_KIND        `kind` is no enum sluicepod_kind
  *     SLUICEPOD_SHORT_RESULT   `result` has fewer than SLUICEPOD_RESULT_LEN entries
  * Where several hold, the code is the first of SHORT_RESULT, NO_KIND, TOO_LONG, BAD_PLACE, NO_ROOM, BAD_HEADER,
- * NOT_A_MAILBOX.
+ * NOT_A_MAILBOX; the calls on bundles have an order of their own, below.
  *
  * Result. The values of an answer are written to the front of `result`: result[0] says how many there are, and
  * result[1], result[2], .. are the values, in the order that each call gives below. Entries behind them are kept.
- * The refusals TOO_LONG, BAD_PLACE and NO_KIND have no values (result[0] is 0), the others have one. SHORT_RESULT alone
- * writes nothing, neither to `result` nor to `out`. Every call asks for the same SLUICEPOD_RESULT_LEN entries.
+ * The refusals TOO_LONG, BAD_PLACE, NOT_A_BUNDLE and NO_KIND have no values (result[0] is 0), the others have one.
+ * SHORT_RESULT alone writes nothing, neither to `result` nor to `out`. Every call asks for the same SLUICEPOD_RESULT_LEN
+ * entries.
  *
  * Out. A summary, or a trailer's value, that is not a part of the input as it stands is written to the front of `out`;
  * bytes behind it are kept, and with any code but SLUICEPOD_OK all of them are. `out` of the input's length is always
@@ -55,6 +57,7 @@ enum sluicepod_code {
     SLUICEPOD_TOO_LONG = 1,
     SLUICEPOD_BAD_PLACE = 2,
     SLUICEPOD_NO_ROOM = 3,
+    SLUICEPOD_NOT_A_BUNDLE = 12,
     SLUICEPOD_BAD_HEADER = 13,
     SLUICEPOD_NOT_A_MAILBOX = 14,
     SLUICEPOD_NINTH_COMMENT = 15,
@@ -137,6 +140,34 @@ uint32_t sluicepod_commit_message(const uint8_t *content, size_t content_len, si
  * Values: the name's start and end, the address's start and end. With NOT_A_MAILBOX and NINTH_COMMENT: the place of the
  * first byte with which no mailbox goes on, or the value's length. */
 uint32_t sluicepod_mailbox(const uint8_t *value, size_t value_len, size_t *result, size_t result_len);
+
+/* ---- Bundles: many messages in one file
+ *
+ * A bundle is a count, of at most SLUICEPOD_BUNDLE_MOST, then count + 1 offsets, each a 32-bit number, little endian, then
+ * the messages. The first offset is the header's length, the last the bundle's, none falls; equal neighbours mean an
+ * empty message. Its calls refuse in the order SHORT_RESULT, TOO_LONG for an input, BAD_PLACE, NOT_A_BUNDLE, TOO_LONG for
+ * the result, NO_ROOM. */
+
+/* The most messages of one bundle. */
+#define SLUICEPOD_BUNDLE_MOST 4096
+
+/* Writes the bundle of some messages of `input` to the front of `out`. `ranges` gives them, start and end in turn; a last
+ * start without an end is a BAD_PLACE. They may overlap, be empty, and stand in any order. The ranges are no input for the
+ * limit. Values: the bundle's length. */
+uint32_t sluicepod_write_bundle(const uint8_t *input, size_t input_len, const size_t *ranges, size_t ranges_len,
+                                uint8_t *out, size_t out_len, size_t *result, size_t result_len);
+
+/* The number of messages of a bundle. Values: the number. */
+uint32_t sluicepod_bundle_count(const uint8_t *bundle, size_t bundle_len, size_t *result, size_t result_len);
+
+/* Message `k` of a bundle, counted from 0. Values: its start and its end in the bundle; none past the last message. */
+uint32_t sluicepod_bundle_message(const uint8_t *bundle, size_t bundle_len, size_t k, size_t *result,
+                                  size_t result_len);
+
+/* The report of a bundle. Values: how many trailers the messages have with the tokens Signed-off-by, Co-authored-by,
+ * Assisted-by, Acked-by, Reviewed-by and Tested-by, ASCII case aside, and with all other tokens; and how many messages
+ * have no trailers (eight). */
+uint32_t sluicepod_bundle_report(const uint8_t *bundle, size_t bundle_len, size_t *result, size_t result_len);
 
 #ifdef __cplusplus
 }

@@ -234,6 +234,7 @@ static void short_results(void) {
 
 #include "commits.h"
 #include "mailbox.c"
+#include "bundles.c"
 
 int main(void) {
     titles_and_summaries();
@@ -246,6 +247,7 @@ int main(void) {
     short_results();
     commits();
     mailboxes();
+    bundles();
     printf("tests/c: %d checks, %d failed\n", checks, failures);
     return failures != 0;
 }
