@@ -8,7 +8,7 @@
 
 use std::ops::Range;
 
-use crate::Refusal;
+use crate::{Refusal, Report};
 
 /// Which tokens are meant, by the header's numbers.
 #[derive(Clone, Copy)]
@@ -191,6 +191,49 @@ pub fn mailbox(value: &[u8]) -> Result<(Range<usize>, Range<usize>), Refusal> {
     Ok((name_start..name_end, start..end))
 }
 
+/// Writes the bundle of the messages that the ranges lend, start and end in turn; its length.
+pub fn write_bundle(input: &[u8], ranges: &[usize], out: &mut [u8]) -> Result<usize, Refusal> {
+    let [_, len, ..] = ask(|result, result_len| unsafe {
+        sluicepod_write_bundle(
+            input.as_ptr(),
+            input.len(),
+            ranges.as_ptr(),
+            ranges.len(),
+            out.as_mut_ptr(),
+            out.len(),
+            result,
+            result_len,
+        )
+    })?;
+    Ok(len)
+}
+
+/// The number of messages of a bundle.
+pub fn bundle_count(bundle: &[u8]) -> Result<usize, Refusal> {
+    let [_, count, ..] =
+        ask(|result, len| unsafe { sluicepod_bundle_count(bundle.as_ptr(), bundle.len(), result, len) })?;
+    Ok(count)
+}
+
+/// Where message `k` of a bundle stands, if there is one.
+pub fn bundle_message(bundle: &[u8], k: usize) -> Result<Option<Range<usize>>, Refusal> {
+    let answer = ask(|result, len| unsafe { sluicepod_bundle_message(bundle.as_ptr(), bundle.len(), k, result, len) })?;
+    Ok(match answer {
+        [2, start, end, ..] => Some(start..end),
+        _ => None,
+    })
+}
+
+/// The report of a bundle.
+pub fn bundle_report(bundle: &[u8]) -> Result<Report, Refusal> {
+    let [_, signed, co_authored, assisted, acked, reviewed, tested, rest, without, ..] =
+        ask(|result, len| unsafe { sluicepod_bundle_report(bundle.as_ptr(), bundle.len(), result, len) })?;
+    Ok(Report {
+        counts: [signed, co_authored, assisted, acked, reviewed, tested, rest],
+        without,
+    })
+}
+
 /// How many entries the calls ask of `result`: the first says how many values there are, and they follow it.
 const RESULT_LEN: usize = 16;
 
@@ -202,6 +245,7 @@ fn ask(call: impl FnOnce(*mut usize, usize) -> u32) -> Result<[usize; RESULT_LEN
         1 => Err(Refusal::TooLong),
         2 => Err(Refusal::BadPlace),
         3 => Err(Refusal::NoRoom { needed: result[1] }),
+        12 => Err(Refusal::NotABundle),
         13 => Err(Refusal::BadHeader { line: result[1] }),
         14 => Err(Refusal::NotAMailbox { at: result[1] }),
         15 => Err(Refusal::NinthComment { at: result[1] }),
@@ -284,4 +328,23 @@ extern "C" {
     ) -> u32;
     fn sluicepod_commit_message(content: *const u8, content_len: usize, result: *mut usize, result_len: usize) -> u32;
     fn sluicepod_mailbox(value: *const u8, value_len: usize, result: *mut usize, result_len: usize) -> u32;
+    fn sluicepod_write_bundle(
+        input: *const u8,
+        input_len: usize,
+        ranges: *const usize,
+        ranges_len: usize,
+        out: *mut u8,
+        out_len: usize,
+        result: *mut usize,
+        result_len: usize,
+    ) -> u32;
+    fn sluicepod_bundle_count(bundle: *const u8, bundle_len: usize, result: *mut usize, result_len: usize) -> u32;
+    fn sluicepod_bundle_message(
+        bundle: *const u8,
+        bundle_len: usize,
+        k: usize,
+        result: *mut usize,
+        result_len: usize,
+    ) -> u32;
+    fn sluicepod_bundle_report(bundle: *const u8, bundle_len: usize, result: *mut usize, result_len: usize) -> u32;
 }

@@ -1,11 +1,11 @@
 use std::fmt;
 
-use crate::LIMIT;
+use crate::{Bundle, LIMIT};
 
 /// Why a call gave no answer.
 ///
-/// The calls of this crate keep their positions themselves, and make room for what is written: so they never give
-/// [`BadPlace`](Refusal::BadPlace) and [`NoRoom`](Refusal::NoRoom), which are those of the archive's calls.
+/// Most calls of this crate give [`TooLong`](Refusal::TooLong) alone: they keep their positions themselves, and make room
+/// for what is written. Which others a call gives is said there.
 #[derive(Clone, Copy, Debug, PartialEq, Eq, Hash)]
 pub enum Refusal {
     /// An input is longer than [`LIMIT`].
@@ -17,6 +17,8 @@ pub enum Refusal {
         /// The length that is needed, in bytes; no shorter one will do.
         needed: usize,
     },
+    /// Bytes that are no bundle, or more messages than one bundle holds.
+    NotABundle,
     /// A commit object's header is not good.
     BadHeader {
         /// The number of the first line after which no good header is possible, counted from 0; a line with those that
@@ -36,12 +38,13 @@ pub enum Refusal {
 }
 
 impl Refusal {
-    /// The refusal's number, as the documents and the C header have it: 1, 2, 3, 13, 14 or 15, in the order above.
+    /// The refusal's number, as the documents and the C header have it.
     pub fn number(&self) -> u32 {
         match self {
             Refusal::TooLong => 1,
             Refusal::BadPlace => 2,
             Refusal::NoRoom { .. } => 3,
+            Refusal::NotABundle => 12,
             Refusal::BadHeader { .. } => 13,
             Refusal::NotAMailbox { .. } => 14,
             Refusal::NinthComment { .. } => 15,
@@ -55,6 +58,7 @@ impl fmt::Display for Refusal {
             Refusal::TooLong => write!(f, "the input is longer than {} bytes", LIMIT),
             Refusal::BadPlace => write!(f, "the position or range is not in the input"),
             Refusal::NoRoom { needed } => write!(f, "the buffer is too short: {} bytes are needed", needed),
+            Refusal::NotABundle => write!(f, "not a bundle of at most {} messages", Bundle::MOST),
             Refusal::BadHeader { line } => write!(f, "the header is not a commit object's: line {} is at fault", line),
             Refusal::NotAMailbox { at } => write!(f, "no mailbox goes on at byte {}", at),
             Refusal::NinthComment { at } => write!(f, "a ninth comment is opened inside eight at byte {}", at),

@@ -51,15 +51,19 @@ fn numbers_and_words() {
         Refusal::TooLong,
         Refusal::BadPlace,
         Refusal::NoRoom { needed: 5 },
+        Refusal::NotABundle,
         Refusal::BadHeader { line: 4 },
+        Refusal::NotAMailbox { at: 5 },
+        Refusal::NinthComment { at: 6 },
     ];
-    assert_eq!(refusals.map(|refusal| refusal.number()), [1, 2, 3, 13]);
+    assert_eq!(refusals.map(|refusal| refusal.number()), [1, 2, 3, 12, 13, 14, 15]);
     let words: Box<dyn Error> = Box::new(refusals[0]);
     assert_eq!(words.to_string(), "the input is longer than 1048576 bytes");
     assert_eq!(refusals[1].to_string(), "the position or range is not in the input");
     assert_eq!(refusals[2].to_string(), "the buffer is too short: 5 bytes are needed");
+    assert_eq!(refusals[3].to_string(), "not a bundle of at most 4096 messages");
     assert_eq!(
-        refusals[3].to_string(),
+        refusals[4].to_string(),
         "the header is not a commit object's: line 4 is at fault"
     );
 }
