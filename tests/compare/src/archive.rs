@@ -86,6 +86,22 @@ mod declared {
             result_len: usize,
         ) -> u32;
         pub fn sluicepod_mailbox(value: *const u8, value_len: usize, result: *mut usize, result_len: usize) -> u32;
+        pub fn sluicepod_write_bundle(
+            input: *const u8,
+            input_len: usize,
+            ranges: *const usize,
+            ranges_len: usize,
+            out: *mut u8,
+            out_len: usize,
+            result: *mut usize,
+            result_len: usize,
+        ) -> u32;
+        pub fn sluicepod_bundle_report(
+            bundle: *const u8,
+            bundle_len: usize,
+            result: *mut usize,
+            result_len: usize,
+        ) -> u32;
         pub fn sluicepod_is_of_kind(
             input: *const u8,
             input_len: usize,
@@ -216,4 +232,23 @@ pub fn commit_message(content: &[u8], result: &mut [usize]) -> u32 {
 
 pub fn mailbox(value: &[u8], result: &mut [usize]) -> u32 {
     unsafe { declared::sluicepod_mailbox(value.as_ptr(), value.len(), result.as_mut_ptr(), result.len()) }
+}
+
+pub fn write_bundle(input: &[u8], ranges: &[usize], out: &mut [u8], result: &mut [usize]) -> u32 {
+    unsafe {
+        declared::sluicepod_write_bundle(
+            input.as_ptr(),
+            input.len(),
+            ranges.as_ptr(),
+            ranges.len(),
+            out.as_mut_ptr(),
+            out.len(),
+            result.as_mut_ptr(),
+            result.len(),
+        )
+    }
+}
+
+pub fn bundle_report(bundle: &[u8], result: &mut [usize]) -> u32 {
+    unsafe { declared::sluicepod_bundle_report(bundle.as_ptr(), bundle.len(), result.as_mut_ptr(), result.len()) }
 }

@@ -17,7 +17,7 @@ pub struct Row {
     pub race: Race,
 }
 
-fn row(call: &'static str, theirs: impl FnMut() -> u64, ours: impl FnMut() -> u64) -> Row {
+pub fn row(call: &'static str, theirs: impl FnMut() -> u64, ours: impl FnMut() -> u64) -> Row {
     let race = race(theirs, ours).unwrap_or_else(|| panic!("{call}: the two answer differently"));
     Row { call, race }
 }

@@ -1,7 +1,7 @@
 //! Times the original and the port on the same inputs, in one run.
 //!
 //!     bench              a line for each call on each shape: nanoseconds of both, and how many times faster the port is
-//!     bench --markdown   these ratios in two tables, a row for each shape, and one for the headers of commit objects
+//!     bench --markdown   these ratios in tables, a row for each shape, and one for the headers of commit objects
 //!     bench commits      the headers of commit objects alone
 //!
 //! The mailbox call, which the original does not have, is timed by itself, on a mebibyte and on half of it.
@@ -14,6 +14,7 @@ mod commits;
 #[cfg(feature = "libgit2")]
 mod libgit2;
 mod mailbox;
+mod night;
 mod race;
 mod shapes;
 mod sides;
@@ -24,6 +25,7 @@ use compare::{original, ours};
 
 use crate::{
     calls::{of_body, of_message, Row},
+    race::Race,
     shapes::Shape,
 };
 
@@ -61,20 +63,11 @@ fn plain(shapes: &[Shape]) {
     );
     for shape in shapes {
         for Row { call, race } in of_message(shape).iter().chain(&of_body(shape)) {
-            println!(
-                "{call:<34} {:<34} {:>12.1} {:>12.1} {:>8.2}",
-                shape.name, race.original, race.ours, race.ratio
-            );
+            line(call, &shape.name, race);
         }
     }
     for commits::Row { header, call, race } in commits::rows() {
-        println!(
-            "{:<34} {header:<34} {:>12.1} {:>12.1} {:>8.2}",
-            format!("commit object: {call}"),
-            race.original,
-            race.ours,
-            race.ratio
-        );
+        line(&format!("commit object: {call}"), header, &race);
     }
     for (name, half, whole) in mailbox::rows() {
         println!(
@@ -84,6 +77,15 @@ fn plain(shapes: &[Shape]) {
             whole / half
         );
     }
+    let (name, Row { call, race }) = night::report();
+    line(call, &name, &race);
+}
+
+fn line(call: &str, shape: &str, race: &Race) {
+    println!(
+        "{call:<34} {shape:<34} {:>12.1} {:>12.1} {:>8.2}",
+        race.original, race.ours, race.ratio
+    );
 }
 
 fn markdown(shapes: &[Shape]) {
@@ -94,6 +96,8 @@ fn markdown(shapes: &[Shape]) {
     for (name, half, whole) in mailbox::rows() {
         println!("| {name} | {:.0} | {:.2} |", whole / 1_000.0, whole / half);
     }
+    let (name, Row { call, race }) = night::report();
+    println!("\n| shape | {call} |\n|---|---:|\n| {name} | {:.2} |", race.ratio);
     println!("\n`*` the port needs less than {CALL_NS} ns: this is what a call costs, and hardly anything is read.");
     commit_table();
 }

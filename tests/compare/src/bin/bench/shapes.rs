@@ -57,7 +57,7 @@ const LONG: [(&str, &[u8]); 9] = [
 ];
 
 /// A message of about this length as people write them: a title, paragraphs of text, a foot with a folded trailer.
-fn typical(len: usize) -> Shape {
+pub fn typical(len: usize) -> Shape {
     let foot: &[u8] = if len < 300 {
         b"\nVehicle: 7\nRecords: 318,\n 22 late\nSigned-off-by: A U Thor <author@example.com>\n"
     } else {

@@ -88,6 +88,32 @@ pub mod theirs {
         trailers.iter().map(|trailer| u64::from(trailer.is_attribution())).sum()
     }
 
+    /// The seven counts and the messages without trailers, by walks of the messages.
+    #[inline(never)]
+    pub fn report(messages: &[&[u8]]) -> u64 {
+        let mut report = [0; 8];
+        for message in messages {
+            let mut trailers = commit(message).message_trailers().peekable();
+            report[7] += u64::from(trailers.peek().is_none());
+            for trailer in trailers {
+                let of = |token: &[u8]| trailer.token.eq_ignore_ascii_case(token);
+                report[SIX.iter().position(|token| of(token)).unwrap_or(6)] += 1;
+            }
+        }
+        report
+            .iter()
+            .fold(0, |sum: u64, number| sum.wrapping_mul(31).wrapping_add(*number))
+    }
+
+    const SIX: [&[u8]; 6] = [
+        b"Signed-off-by",
+        b"Co-authored-by",
+        b"Assisted-by",
+        b"Acked-by",
+        b"Reviewed-by",
+        b"Tested-by",
+    ];
+
     fn commit(message: &[u8]) -> CommitRef<'_> {
         CommitRef {
             message: message.as_bstr(),
@@ -222,5 +248,15 @@ pub mod ours {
     fn at<'a>(input: &'a [u8], out: &'a [u8], place: &[usize]) -> &'a [u8] {
         let holder = if place[0] == 0 { input } else { out };
         &holder[place[1]..place[2]]
+    }
+
+    #[inline(never)]
+    pub fn report(bundle: &[u8]) -> u64 {
+        let mut result = [0; RESULT_LEN];
+        assert_eq!(archive::bundle_report(bundle, &mut result), OK);
+        let report = &result[1..9];
+        report
+            .iter()
+            .fold(0, |sum: u64, &number| sum.wrapping_mul(31).wrapping_add(number as u64))
     }
 }
