@@ -1,8 +1,8 @@
 -- An answer about a bundle is told by its number and its values: a statement `says r ≡ ..` decides it. Assumes nothing.
 use mathlib.Core.List.{[], _∷_}
-use mathlib.Core.Path.{_≡_, refl, sym, ap, _∙_}
+use mathlib.Core.Path.{_≡_, refl}
 use Prim.Native.Nat.{ℕ, zero, suc}
-use Rattle.rules.proofs.Answers.{Decides}
+use Rattle.rules.proofs.Answers.{Decides, decides}
 use Rattle.rules.specs.Answers.{Said, says}
 use Rattle.rules.specs.declared.Part.{Part}
 use Rattle.bundle.specs.Answers.{countedSays, messageSays}
@@ -21,7 +21,7 @@ counting-back BundleCounted.TooLong = refl
 counting-back BundleCounted.NotABundle = refl
 
 pub bundle-counted-decides : Decides countedSays
-bundle-counted-decides wanted a b p q = sym (counting-back a) ∙ ap counting (p ∙ sym q) ∙ counting-back b
+bundle-counted-decides = decides countedSays counting counting-back
 
 abbrev part : ℕ → ℕ → Part
 part start end = record { start = start; end = end }
@@ -40,4 +40,4 @@ message-back MessageFound.TooLong = refl
 message-back MessageFound.NotABundle = refl
 
 pub message-found-decides : Decides messageSays
-message-found-decides wanted a b p q = sym (message-back a) ∙ ap message (p ∙ sym q) ∙ message-back b
+message-found-decides = decides messageSays message message-back

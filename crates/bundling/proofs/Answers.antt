@@ -2,11 +2,11 @@
 -- its number and its values, so a statement `says r ≡ ..` decides it. Assumes nothing.
 use mathlib.Core.Bool.{true, false}
 use mathlib.Core.List.{List, [], _∷_}
-use mathlib.Core.Path.{_≡_, refl, sym, ap, _∙_}
+use mathlib.Core.Path.{_≡_, refl, sym, ap}
 use Prim.Native.Nat.{ℕ, zero, suc, _≤_, _<_}
 use borrow.Author.Tests.{le-leb, le-ltb, lt-leb, lt-ltb}
 use lib.ListN.{length}
-use Rattle.rules.proofs.Answers.{Decides}
+use Rattle.rules.proofs.Answers.{Decides, decides}
 use Rattle.rules.specs.Answers.{Said, says, afterwards, limit}
 use Rattle.bundle.specs.Bundle.{bundleOf, most}
 use Rattle.bundling.specs.Answers.{writeAnswer, writeBuffer, writtenSays}
@@ -60,4 +60,4 @@ writing-back BundleWritten.NotABundle = refl
 writing-back (BundleWritten.NoRoom n) = refl
 
 pub bundle-written-decides : Decides writtenSays
-bundle-written-decides wanted a b p q = sym (writing-back a) ∙ ap writing (p ∙ sym q) ∙ writing-back b
+bundle-written-decides = decides writtenSays writing writing-back

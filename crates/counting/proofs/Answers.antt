@@ -1,8 +1,8 @@
 -- The answer of `bundle_report` is told by its number and its values: a statement `says r ≡ ..` decides it. Assumes nothing.
-use mathlib.Core.Path.{_≡_, refl, sym, ap, _∙_}
+use mathlib.Core.Path.{_≡_, refl}
 use Prim.Native.Nat.{zero, suc}
 use lib.ListN.{getD}
-use Rattle.rules.proofs.Answers.{Decides}
+use Rattle.rules.proofs.Answers.{Decides, decides}
 use Rattle.rules.specs.Answers.{Said, says}
 use Rattle.counting.specs.Answers.{reportSays}
 use Rattle.counting.specs.declared.BundleReported.{BundleReported}
@@ -19,4 +19,4 @@ reporting-back BundleReported.TooLong = refl
 reporting-back BundleReported.NotABundle = refl
 
 pub bundle-reported-decides : Decides reportSays
-bundle-reported-decides wanted a b p q = sym (reporting-back a) ∙ ap reporting (p ∙ sym q) ∙ reporting-back b
+bundle-reported-decides = decides reportSays reporting reporting-back

@@ -10,9 +10,10 @@ ghost use Rattle.counting.specs.Report.{countsOf, figureOf, messageTrail
 use bundle::is_bundle;
 use bundle::message_part;
 use bundle::read_u32;
+use filter::is_of;
 use paragraph::trailer_block_start;
+use rules::Kind;
 use rules::LIMIT;
-use text::fixed::eq_ignore_ascii_case;
 use title::title_and_body;
 use trailer::walk::NextTrailer;
 use trailer::walk::next_trailer_from;
@@ -50,22 +51,22 @@ struct Tally {
 fn figure_of(token: &[u8]) -> usize
     ensures { λ r. ⌜ r ≡ figureOf (now (token .entry)) ⌝ }
 {
-    if eq_ignore_ascii_case(token, b"Signed-off-by") {
+    if is_of(Kind::SignedOffBy, token) {
         return 0;
     }
-    if eq_ignore_ascii_case(token, b"Co-authored-by") {
+    if is_of(Kind::CoAuthoredBy, token) {
         return 1;
     }
-    if eq_ignore_ascii_case(token, b"Assisted-by") {
+    if is_of(Kind::AssistedBy, token) {
         return 2;
     }
-    if eq_ignore_ascii_case(token, b"Acked-by") {
+    if is_of(Kind::AckedBy, token) {
         return 3;
     }
-    if eq_ignore_ascii_case(token, b"Reviewed-by") {
+    if is_of(Kind::ReviewedBy, token) {
         return 4;
     }
-    if eq_ignore_ascii_case(token, b"Tested-by") {
+    if is_of(Kind::TestedBy, token) {
         return 5;
     }
     6
