@@ -8,7 +8,7 @@ use Rattle.rules.specs.Answers.{Said, Row, judged, tooLong, misplaced, noRoom, 
 use Rattle.rules.specs.Answers.{blockStepSays, startSays, trailerFoundSays, trailerStepSays, yesNoSays}
 use Rattle.rules.specs.Division.{Block, block, blocksFrom}
 use Rattle.rules.specs.Lists.{if_then_else_}
-use Rattle.rules.specs.Paragraph.{blockStart}
+use Rattle.rules.specs.Paragraph.{blockStart, endingBelow}
 use Rattle.rules.specs.Record.{recordOf, writtenOf}
 use Rattle.rules.specs.Trailer.{Trailer, endOf, rawValue, isOf, lookup, only, walkFrom}
 use Rattle.rules.specs.declared.BlockCursor.{BlockCursor}
@@ -55,10 +55,13 @@ abbrev pub foundWrites : Option Trailer → List ℕ
 foundWrites none = []
 foundWrites (some t) = writtenOf (rawValue t)
 
+abbrev pub findRows : List ℕ → List ℕ → ℕ → List Row
+findRows body name room =
+    tooLong (body ∷ name ∷ []) ∷ noRoom (length (foundWrites (lookup name (walkFrom body (blockStart body))))) room ∷ []
+
 abbrev pub findAnswer : List ℕ → List ℕ → ℕ → Said
 findAnswer body name room =
-    judged (tooLong (body ∷ name ∷ []) ∷ noRoom (length (foundWrites (lookup name (walkFrom body (blockStart body))))) room ∷ [])
-    (trailerFoundSays (foundOf (lookup name (walkFrom body (blockStart body)))))
+    judged (findRows body name room) (trailerFoundSays (foundOf (lookup name (walkFrom body (blockStart body)))))
 
 abbrev pub findBuffer : List ℕ → List ℕ → List ℕ → List ℕ
 findBuffer body name out =
@@ -74,7 +77,7 @@ questionAnswer kind s start end =
 -- ---- `trailer_block_start`
 
 abbrev pub startAnswer : List ℕ → Said
-startAnswer body = judged (tooLong (body ∷ []) ∷ []) (startSays (StartFound.At (blockStart body)))
+startAnswer body = judged (tooLong (body ∷ []) ∷ []) (startSays (StartFound.At (blockStart body) (endingBelow body)))
 
 -- ---- `next_block`: the blocks from the cursor on
 

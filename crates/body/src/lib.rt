@@ -8,6 +8,7 @@ use block::NextBlock;
 use block::next_block_from;
 use filter::find_named;
 use filter::next_of;
+use paragraph::last_ending;
 use record::TrailerRead;
 use record::read_trailer;
 use rules::BlockCursor;
@@ -23,14 +24,16 @@ use rules::TrailerStep;
 use rules::YesNo;
 use trailer::walk::NextTrailer;
 
-// Where the trailer block of `body` starts; the body's length where it has none.
+// Where the trailer block of `body` starts, the body's length where it has none; and how the body's last non-blank line ended.
 pub fn trailer_block_start(body: &[u8]) -> StartFound
     ensures { λ r. ⌜ startSays r ≡ startAnswer (now (body .entry)) ⌝ }
 {
     if body.len() > LIMIT {
         return StartFound::Refused(Refusal::TooLong);
     }
-    StartFound::At(paragraph::trailer_block_start(body))
+    let start = paragraph::trailer_block_start(body);
+    let ending = last_ending(body);
+    StartFound::At { start, ending }
 }
 
 // The next trailer from the cursor on whose token is of the kind; the others are passed over, and write nothing.

@@ -12,6 +12,7 @@ use paragraph::accepts_as_trailer_block;
 use paragraph::is_recognized_prefix;
 use paragraph::last_paragraph;
 use paragraph::trailer_block_start;
+use rules::Ending;
 use signers::print_signers;
 use text::line::is_blank_line;
 use text::line::is_indented;
@@ -147,11 +148,24 @@ fn print_paragraph(body: &[u8], start: usize)
     }
 }
 
-// Prints a line behind its kind.
+// Prints a line's text behind its kind, and how it ended where that is not LF.
 fn print_line(kind: LineKind, line: &[u8]) {
     print_kind(kind);
-    print(trim_line_ending(line));
-    print(b"\n");
+    let text = trim_line_ending(line);
+    let len = text.len;
+    let ending = text.ending;
+    print(&line[..len]);
+    print_ending(ending);
+}
+
+// Prints how a line ended, and ends the printed one.
+fn print_ending(ending: Ending) {
+    match ending {
+        Ending::Lf => print(b"\n"),
+        Ending::CrLf => print(b"  (CR LF)\n"),
+        Ending::Cr => print(b"  (CR)\n"),
+        Ending::None => print(b"  (no line end)\n"),
+    }
 }
 
 // Prints the kind of a line.

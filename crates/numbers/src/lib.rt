@@ -4,9 +4,10 @@ ghost use mathlib.Core.List.{[], _∷_};
 ghost use mathlib.Core.Path.{_≡_};
 ghost use Prim.Native.Nat.{_≤_, _<_};
 ghost use lib.ListN.{length};
-ghost use Rattle.rules.specs.Answers.{blockStepSays, refused, says, startSays, titleSays, trailerFoundSays, trailerStepSays, valueFoundSays, valueSays, walkFoundSays, yesNoSays};
+ghost use Rattle.rules.specs.Answers.{blockStepSays, endingSays, refused, says, startSays, titleSays, trailerFoundSays, trailerStepSays, valueFoundSays, valueSays, walkFoundSays, yesNoSays};
 ghost use Rattle.numbers.specs.Numbers.{codeOf, kindOf, resultLength, resultOf};
 use rules::BlockStep;
+use rules::Ending;
 use rules::Kind;
 use rules::Refusal;
 use rules::StartFound;
@@ -96,6 +97,18 @@ fn place_of(value: Value) -> Place
     }
 }
 
+// How a line ended, as a number.
+fn ending_number(ending: Ending) -> usize
+    ensures { λ r. ⌜ r ≡ endingSays ending ⌝ }
+{
+    match ending {
+        Ending::Lf => 0,
+        Ending::CrLf => 1,
+        Ending::Cr => 2,
+        Ending::None => 3,
+    }
+}
+
 // Of an answer of `summary` and `message_summary`.
 pub fn put_value(answer: ValueFound, result: &mut [usize]) -> u32
     requires { ⌜ resultLength ≤ length (now result) ⌝ }
@@ -118,7 +131,10 @@ pub fn put_start(answer: StartFound, result: &mut [usize]) -> u32
     ensures { λ _. ⌜ now (result .exit) ≡ resultOf (startSays answer) (now (result .entry)) ⌝ }
 {
     match answer {
-        StartFound::At(start) => put(0, &[start], result),
+        StartFound::At { start, ending } => {
+            let how = ending_number(ending);
+            put(0, &[start, how], result)
+        }
         StartFound::Refused(refusal) => put_refusal(refusal, result),
     }
 }
@@ -144,7 +160,9 @@ pub fn put_step(answer: TrailerStep, result: &mut [usize]) -> u32
     match answer {
         TrailerStep::Trailer { found, next } => {
             let value = found.value;
+            let ending = found.ending;
             let at = place_of(value);
+            let how = ending_number(ending);
             put(
                 0,
                 &[
@@ -154,6 +172,7 @@ pub fn put_step(answer: TrailerStep, result: &mut [usize]) -> u32
                     at.start,
                     at.end,
                     next.at,
+                    how,
                 ],
                 result,
             )
@@ -172,7 +191,9 @@ pub fn put_found(answer: TrailerFound, result: &mut [usize]) -> u32
     match answer {
         TrailerFound::Trailer(found) => {
             let value = found.value;
+            let ending = found.ending;
             let at = place_of(value);
+            let how = ending_number(ending);
             put(
                 0,
                 &[
@@ -181,6 +202,7 @@ pub fn put_found(answer: TrailerFound, result: &mut [usize]) -> u32
                     at.held,
                     at.start,
                     at.end,
+                    how,
                 ],
                 result,
             )

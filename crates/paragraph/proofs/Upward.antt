@@ -2,6 +2,7 @@
 -- one line more above makes of it. Assumes nothing.
 use mathlib.Core.Bool.{Bool, true, false}
 use mathlib.Core.List.{List, [], _∷_, _++_, append-assoc, append-nil}
+use mathlib.Core.Option.{some}
 use mathlib.Core.Path.{_≡_, refl, sym, ap, _∙_}
 use Prim.Native.Nat.{ℕ, zero, suc, _+_, _-_, _≤_, _<_}
 use native.Mathlib.Omega.{arith}
@@ -9,9 +10,10 @@ use lib.Dec.{T}
 use lib.ListN.{length, take, drop, length-append, length-drop}
 use lib.Seq.{drop-at, drop-length, length-take-le, take-add, take-length}
 use Rattle.rules.specs.Bytes.{blankByte}
-use Rattle.rules.specs.Lines.{Line, lines, text}
+use Rattle.rules.specs.Lines.{Line, ending, lines, text}
 use Rattle.rules.specs.Lists.{all, join}
-use Rattle.rules.specs.Paragraph.{solid, Body, put, parse}
+use Rattle.rules.specs.Paragraph.{lastEnding, solid, Body, put, parse}
+use Rattle.rules.proofs.LastEndings.{last-blank, last-solid}
 use Rattle.rules.proofs.Lines.{join-lines, lines-from, text-ending}
 use Rattle.rules.proofs.Lists.{cut-unique}
 use Rattle.find.specs.Find.{behindLF}
@@ -59,6 +61,13 @@ module _ (body : List ℕ) (start end : ℕ) (s : start ≡ lineStart body end) 
     last-part =
         rw s (last-line body end z h ∙ ap (λ (l : Line). lines (take (lineStart body end) body) ++ l ∷ [])
         (part-is body (lineStart body end) end (start-le body (lineStart body end) end refl) h))
+
+    -- the last non-blank line is this one, or it is above
+    pub ending-here : all blankByte (part body start end) ≡ false → lastEnding (lines (take end body)) ≡ some (ending (part body start end))
+    ending-here b = ap lastEnding last-part ∙ last-solid (lines (take start body)) (part body start end) (rw (blank-all (part body start end), b))
+
+    pub ending-above : all blankByte (part body start end) ≡ true → lastEnding (lines (take end body)) ≡ lastEnding (lines (take start body))
+    ending-above b = ap lastEnding last-part ∙ last-blank (lines (take start body)) (part body start end) (rw (blank-all (part body start end), b))
 
     line-size : end ≡ length (join (lines (take start body))) + length (part body start end)
     line-size = rw join-lines (omega (arith, sizes .0, sizes .1, start-le body start end s))

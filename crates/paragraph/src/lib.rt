@@ -3,8 +3,9 @@ ghost use mathlib.Core.Path.{_≡_};
 ghost use Prim.Native.Nat.{_+_, _*_, _^_, _<_, _≤_};
 ghost use lib.ListN.{length, take};
 ghost use Rattle.rules.specs.Lines.{lines};
-ghost use Rattle.rules.specs.Paragraph.{accepts, blockStart, parse, recognised};
+ghost use Rattle.rules.specs.Paragraph.{accepts, blockStart, endingBelow, parse, recognised};
 ghost use Rattle.paragraph.specs.Scan.{endAbove, lastParagraph, scanned};
+use rules::Ending;
 use text::fixed::starts_with;
 use text::line::is_blank_line;
 use text::line::is_indented;
@@ -120,7 +121,7 @@ fn end_above(body: &[u8], end: usize) -> usize
 {
     let blank = line_start(body, end);
     let start = line_start(body, blank);
-    start + trim_line_ending(&body[start..blank]).len()
+    start + trim_line_ending(&body[start..blank]).len
 }
 
 // Where the trailer block of `body` starts; the body's length where its last paragraph is none.
@@ -138,4 +139,20 @@ pub fn trailer_block_start(body: &[u8]) -> usize
         return body.len();
     }
     end_above(body, paragraph.start)
+}
+
+// How the last non-blank line of `body` ended; with none of the endings where there is no such line.
+pub fn last_ending(body: &[u8]) -> Ending
+    ensures { λ r. ⌜ r ≡ endingBelow (now (body .entry)) ⌝ }
+{
+    let mut end: usize = body.len();
+    while end > 0 {
+        let start = line_start(body, end);
+        let line = &body[start..end];
+        if !is_blank_line(line) {
+            return trim_line_ending(line).ending;
+        }
+        end = start;
+    }
+    Ending::None
 }

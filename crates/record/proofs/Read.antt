@@ -9,9 +9,11 @@ use Rattle.rules.proofs.Answers.{fitted-is}
 use Rattle.rules.proofs.Record.{raw-is}
 use Rattle.rules.proofs.Walk.{Stands}
 use Rattle.rules.specs.Answers.{Said, says, afterwards, judged, noRoom, refused}
+use Rattle.rules.specs.Lines.{ending}
 use Rattle.rules.specs.Lists.{if_then_else_}
 use Rattle.rules.specs.Record.{fitted, part, placesOf, recordAt, recordOf, valueOf, writtenOf}
 use Rattle.rules.specs.Trailer.{Trailer, rawValue}
+use Rattle.rules.specs.declared.Ending.{Ending}
 use Rattle.rules.specs.declared.Places.{Places}
 use Rattle.rules.specs.declared.Refusal.{Refusal}
 use Rattle.rules.specs.declared.TrailerRef.{TrailerRef}
@@ -22,16 +24,18 @@ use Rattle.record.specs.declared.TrailerRead.{TrailerRead}
 
 -- ---- from the value to the record
 
-abbrev pub withValue : Places → ValueFound → TrailerRead
-withValue at (ValueFound.At v) = TrailerRead.Trailer (record { token = part (at .start) (at .«token_end»); value = v })
-withValue at (ValueFound.Refused r) = TrailerRead.Refused r
+abbrev pub withValue : Places → Ending → ValueFound → TrailerRead
+withValue at how (ValueFound.At v) =
+    TrailerRead.Trailer (record { token = part (at .start) (at .«token_end»); value = v; ending = how })
+withValue at how (ValueFound.Refused r) = TrailerRead.Refused r
 
-pub with-value : (at : Places) (raw : List ℕ) (room : ℕ) → withValue at (valueFound (at .«value_start») raw room) ≡ trailerRead at raw room
+pub with-value : (at : Places) (raw : List ℕ) (room : ℕ)
+    → withValue at (ending raw) (valueFound (at .«value_start») raw room) ≡ trailerRead at raw room
 with-value at raw room = by (ltb room (length (writtenOf raw)))
   where
     by : (b : Bool)
-        → withValue at (if b then ValueFound.Refused (Refusal.NoRoom (length (writtenOf raw))) else ValueFound.At (valueOf (at .«value_start») raw))
-        ≡ (if b then TrailerRead.Refused (Refusal.NoRoom (length (writtenOf raw))) else TrailerRead.Trailer (recordAt at raw))
+        → withValue at (ending raw) (if b then ValueFound.Refused (Refusal.NoRoom (length (writtenOf raw))) else ValueFound.At (valueOf (at .«value_start») raw))
+        ≡ (if b then TrailerRead.Refused (Refusal.NoRoom (length (writtenOf raw))) else TrailerRead.Trailer (recordAt at raw (ending raw)))
     by true = refl
     by false = refl
 
@@ -57,7 +61,8 @@ module _ {body : List ℕ} {t : Trailer} {at : Places} (w : Stands body t) (e : 
       → r ≡ trailerRead at (take (at .end - at .«value_start») (drop (at .«value_start») body)) room
       → saidOf said r ≡ judged (noRoom (length (writtenOf (rawValue t))) room ∷ []) (said (recordOf t))
   read-answer said room q =
-      let read : trailerRead at (take (at .end - at .«value_start») (drop (at .«value_start») body)) room ≡ readOf t room = rw (raw-is w e, e) in
+      let read : trailerRead at (take (at .end - at .«value_start») (drop (at .«value_start») body)) room ≡ readOf t room =
+      rw (raw-is w e, e, w .ending-is) in
       ap (saidOf said) (q ∙ read) ∙ read-said said t room
 
   pub read-left : (out : List ℕ) {left : List ℕ} (values : List ℕ)

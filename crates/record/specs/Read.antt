@@ -3,18 +3,21 @@ use mathlib.Core.List.{List}
 use Prim.Native.Nat.{ℕ}
 use lib.Dec.{ltb}
 use lib.ListN.{length}
+use Rattle.rules.specs.Lines.{ending}
 use Rattle.rules.specs.Lists.{if_then_else_}
-use Rattle.rules.specs.Record.{placesOf, recordAt, writtenOf}
+use Rattle.rules.specs.Record.{recordAt, recordOf, writtenOf}
 use Rattle.rules.specs.Trailer.{Trailer, rawValue}
 use Rattle.rules.specs.declared.Places.{Places}
 use Rattle.rules.specs.declared.Refusal.{Refusal}
 use Rattle.record.specs.declared.TrailerRead.{TrailerRead}
 
--- by its places and its raw value
+-- by its places and its raw value, which ends as the trailer's last line does
 abbrev pub trailerRead : Places → List ℕ → ℕ → TrailerRead
 trailerRead at raw room =
     if ltb room (length (writtenOf raw)) then TrailerRead.Refused (Refusal.NoRoom (length (writtenOf raw)))
-    else TrailerRead.Trailer (recordAt at raw)
+    else TrailerRead.Trailer (recordAt at raw (ending raw))
 
 abbrev pub readOf : Trailer → ℕ → TrailerRead
-readOf t room = trailerRead (placesOf t) (rawValue t) room
+readOf t room =
+    if ltb room (length (writtenOf (rawValue t))) then TrailerRead.Refused (Refusal.NoRoom (length (writtenOf (rawValue t))))
+    else TrailerRead.Trailer (recordOf t)

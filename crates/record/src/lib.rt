@@ -9,6 +9,7 @@ use rules::Places;
 use rules::Refusal;
 use rules::TrailerRef;
 use rules::ValueFound;
+use text::line::trim_line_ending;
 use value::read_value;
 
 // Of `read_trailer`; a refusal is one for too little room.
@@ -17,13 +18,17 @@ pub enum TrailerRead {
     Refused(Refusal),
 }
 
-// The record of the trailer that stands at the places `at` of `body`. A folded value is written to the front of `out`.
+// The record of the trailer that stands at the places `at` of `body`. A folded value is written to the front of `out`. The bytes
+// behind the colon end as the trailer's last line does.
 pub fn read_trailer(body: &[u8], at: Places, out: &mut [u8]) -> TrailerRead
     requires { ⌜ (at .«value_start» ≤ at .end) × (at .end ≤ length (now body)) ⌝ }
     ensures { λ r. ⌜ r ≡ trailerRead at (take (at .end - at .«value_start») (drop (at .«value_start») (now (body .entry)))) (length (now (out .entry))) ⌝ }
     ensures { λ _. ⌜ now (out .exit) ≡ fitted (writtenOf (take (at .end - at .«value_start») (drop (at .«value_start») (now (body .entry))))) (now (out .entry)) ⌝ }
 {
-    let read = read_value(body, at.value_start, at.end, out);
+    let from = at.value_start;
+    let to = at.end;
+    let ending = trim_line_ending(&body[from..to]).ending;
+    let read = read_value(body, from, to, out);
     match read {
         ValueFound::At(value) => TrailerRead::Trailer(TrailerRef {
             token: Part {
@@ -31,6 +36,7 @@ pub fn read_trailer(body: &[u8], at: Places, out: &mut [u8]) -> TrailerRead
                 end: at.token_end,
             },
             value,
+            ending,
         }),
         ValueFound::Refused(refusal) => TrailerRead::Refused(refusal),
     }

@@ -243,7 +243,7 @@ fn message_trailers_agree(list: &[u8], place: Place, message: &[u8], out: &mut [
 // Where the trailer block of a body starts.
 fn start_of(body: &[u8]) -> usize {
     match trailer_block_start(body) {
-        StartFound::At(start) => start,
+        StartFound::At { start, ending: _ } => start,
         StartFound::Refused(_) => REFUSED,
     }
 }

@@ -5,8 +5,9 @@ use Prim.Native.Nat.{ℕ, _+_}
 use lib.Dec.{ltb}
 use lib.ListN.{length, drop}
 use Rattle.rules.specs.Lists.{if_then_else_}
-use Rattle.rules.specs.Trailer.{Trailer, placeOf, endOf, tokenOf, rawValue, rawValueAt, unfolded, valueIsWritten}
+use Rattle.rules.specs.Trailer.{Trailer, placeOf, endOf, endingOf, tokenOf, rawValue, rawValueAt, unfolded, valueIsWritten}
 use Rattle.rules.specs.White.{trim, trimAt}
+use Rattle.rules.specs.declared.Ending.{Ending}
 use Rattle.rules.specs.declared.Part.{Part}
 use Rattle.rules.specs.declared.Places.{Places}
 use Rattle.rules.specs.declared.Refusal.{Refusal}
@@ -51,9 +52,13 @@ placesOf t = record {
   end = endOf t;
 }
 
--- of a trailer by its places and its raw value
-abbrev pub recordAt : Places → List ℕ → TrailerRef
-recordAt p raw = record { token = part (p .start) (p .«token_end»); value = valueOf (p .«value_start») raw }
+-- its token, where its value stands, and how its last line ended
+abbrev pub recordAt : Places → List ℕ → Ending → TrailerRef
+recordAt p raw ending = record {
+  token = part (p .start) (p .«token_end»);
+  value = valueOf (p .«value_start») raw;
+  ending = ending;
+}
 
 abbrev pub recordOf : Trailer → TrailerRef
-recordOf t = recordAt (placesOf t) (rawValue t)
+recordOf t = recordAt (placesOf t) (rawValue t) (endingOf t)

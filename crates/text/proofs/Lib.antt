@@ -2,3 +2,4 @@
 pub mod Lines
 pub mod ByLines
 pub mod Equal
+pub mod Endings

@@ -3,11 +3,12 @@ ghost use mathlib.Core.Path.{_≡_};
 ghost use Prim.Native.Nat.{_≤_};
 ghost use lib.ListN.{length};
 ghost use Rattle.rules.specs.Bytes.{blankByte};
-ghost use Rattle.rules.specs.Lines.{indented, lines, text, without};
+ghost use Rattle.rules.specs.Lines.{ending, endsWith, indented, lines, text};
 ghost use Rattle.rules.specs.Lists.{all};
 ghost use Rattle.text.specs.Lines.{firstLength, lineStart};
 use find::behind_lf;
 use find::find_lf;
+use rules::Ending;
 
 // The length of the first line, its ending with it; 0 of an empty input.
 pub fn line_len(s: &[u8]) -> usize
@@ -31,26 +32,50 @@ pub fn line_start(s: &[u8], at: usize) -> usize
     behind_lf(s, at - 1)
 }
 
-// `line` without its last byte, where that is `byte`.
-fn strip_suffix<'a>(line: &'a [u8], byte: u8) -> &'a [u8]
-    ensures { λ r. ⌜ now r ≡ without byte (now (line .entry)) ⌝ }
+// Whether the last byte of `line` is `byte`.
+fn ends_with(line: &[u8], byte: u8) -> bool
+    ensures { λ r. ⌜ r ≡ endsWith byte (now (line .entry)) ⌝ }
 {
     let n = line.len();
     if n == 0 {
-        return line;
+        return false;
     }
-    if line[n - 1] == byte {
-        return &line[..n - 1];
-    }
-    line
+    line[n - 1] == byte
 }
 
-// A line's text: Windows or linux line endings, or a single CR at the end.
-pub fn trim_line_ending<'a>(line: &'a [u8]) -> &'a [u8]
-    ensures { λ r. ⌜ now r ≡ text (now (line .entry)) ⌝ }
+// Of `trim_line_ending`: the length of a line's text, and the ending behind it.
+pub struct LineText {
+    pub len: usize,
+    pub ending: Ending,
+}
+
+// A line's text, and which ending it drops: Windows or linux line endings, or a single CR at the end.
+pub fn trim_line_ending(line: &[u8]) -> LineText
+    ensures { λ r. ⌜ (r .len ≡ length (text (now (line .entry)))) × (r .ending ≡ ending (now (line .entry))) ⌝ }
 {
-    let stripped = strip_suffix(line, b'\n');
-    strip_suffix(stripped, b'\r')
+    let n = line.len();
+    if ends_with(line, b'\n') {
+        if ends_with(&line[..n - 1], b'\r') {
+            return LineText {
+                len: n - 2,
+                ending: Ending::CrLf,
+            };
+        }
+        return LineText {
+            len: n - 1,
+            ending: Ending::Lf,
+        };
+    }
+    if ends_with(line, b'\r') {
+        return LineText {
+            len: n - 1,
+            ending: Ending::Cr,
+        };
+    }
+    LineText {
+        len: n,
+        ending: Ending::None,
+    }
 }
 
 // ASCII blank: space, tab, LF, form feed, CR.

@@ -21,7 +21,7 @@ pub fn title_and_body(message: &[u8]) -> Places
         let end = at + line_len(&message[at..]);
         let second_len = newline_len(&message[end..]);
         if second_len != 0 {
-            let text_len = trim_line_ending(&message[at..end]).len();
+            let text_len = trim_line_ending(&message[at..end]).len;
             return Places {
                 title_end: at + text_len,
                 body_start: end + second_len,

@@ -1,13 +1,18 @@
 -- `numbers::put_start` meets its contract. Assumes nothing.
-use mathlib.Core.Path.{sym, ap}
+use mathlib.Core.List.{[], _∷_}
+use mathlib.Core.Path.{sym, ap, _∙_}
+use Prim.Native.Nat.{ℕ}
 use borrow.Author.Needs.{needs}
-use Rattle.rules.specs.Answers.{startSays}
+use Rattle.rules.specs.Answers.{says, startSays}
 use Rattle.numbers.proofs.Crossing.{crosses}
 use Rattle.numbers.proofs.put_start.Statement.{statement}
 use Rattle.numbers.proofs.put_start.Tie as tie
 
 enum-known-answer : tie.Need-enum-known-answer
 enum-known-answer c = search needs
+
+ending-number-requires : tie.Need-ending-number-requires
+ending-number-requires c κs = search needs
 
 slice-aggregate-put : tie.Need-slice-aggregate-put
 slice-aggregate-put c = search needs
@@ -27,9 +32,11 @@ same-length c = search needs
 returns : tie.Need-returns
 returns c =
     let p = c .before .before in
-    let a = p .before .before in
-    let m = a .before .before in
-    crosses (m .before .before .before .args .result .now) (ap startSays (sym (m .answer .given .1))) (p .put .ensures)
+    let n = p .before .before .before in
+    let m = n .before .before in
+    let g = m .answer .given in
+    crosses (m .before .before .before .args .result .now)
+    (ap (λ (how : ℕ). says 0 (g .0 .0 ∷ how ∷ [])) (n .ending-number .ensures) ∙ ap startSays (sym (g .1))) (p .put .ensures)
 
 same-length-2 : tie.Need-same-length-2
 same-length-2 c = search needs
@@ -46,6 +53,7 @@ put-start-spec =
     tie.close
     (tie.spec
     enum-known-answer
+    ending-number-requires
     slice-aggregate-put
     put-requires
     enum-known-answer-2

@@ -3,7 +3,7 @@ use mathlib.Core.List.{List, [], _∷_, _++_}
 use mathlib.Core.Path.{sym, ap, _∙_}
 use Prim.Native.Nat.{ℕ}
 use borrow.Author.Needs.{needs}
-use Rattle.rules.specs.Answers.{says, trailerStepSays}
+use Rattle.rules.specs.Answers.{says, trailerSays, trailerStepSays}
 use Rattle.numbers.proofs.Crossing.{crosses}
 use Rattle.numbers.proofs.put_step.Statement.{statement}
 use Rattle.numbers.proofs.put_step.Tie as tie
@@ -13,6 +13,9 @@ enum-known-answer c = search needs
 
 place-of-requires : tie.Need-place-of-requires
 place-of-requires c κs = search needs
+
+ending-number-requires : tie.Need-ending-number-requires
+ending-number-requires c κs = search needs
 
 slice-aggregate-put : tie.Need-slice-aggregate-put
 slice-aggregate-put c = search needs
@@ -41,11 +44,16 @@ same-length c = search needs
 returns : tie.Need-returns
 returns c =
     let p = c .before .before in
-    let a = p .before .before .before in
+    let n = p .before .before .before in
+    let a = n .before in
     let m = a .before .before in
     let g = m .answer .given in
     let t = g .0 .0 in
-    crosses (m .before .before .before .args .result .now) (ap (λ (vs : List ℕ). says 0 (t .token .start ∷ t .token .end ∷ (vs ++ (g .0 .1 .0 .at ∷ [])))) (a .place-of .ensures) ∙ ap trailerStepSays (sym (g .1))) (p .put .ensures)
+    let how = n .ending-number .result in
+    crosses (m .before .before .before .args .result .now)
+    (ap (λ (vs : List ℕ). says 0 (t .token .start ∷ t .token .end ∷ (vs ++ (g .0 .1 .0 .at ∷ how ∷ [])))) (a .place-of .ensures)
+    ∙ ap (λ (h : ℕ). says 0 (trailerSays t ++ (g .0 .1 .0 .at ∷ h ∷ []))) (n .ending-number .ensures) ∙ ap trailerStepSays (sym (g .1)))
+    (p .put .ensures)
 
 same-length-2 : tie.Need-same-length-2
 same-length-2 c = search needs
@@ -73,6 +81,7 @@ put-step-spec =
     (tie.spec
     enum-known-answer
     place-of-requires
+    ending-number-requires
     slice-aggregate-put
     put-requires
     enum-known-answer-2

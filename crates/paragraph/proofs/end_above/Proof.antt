@@ -16,9 +16,9 @@ module _ (body : List ℕ) (end blank start : ℕ) (b : blank ≡ lineStart body
   in-order : (start ≤ blank) × (blank ≤ end)
   in-order = (start-le body start blank s, start-le body blank end b)
 
-  ends : end ≤ length body → (t : List ℕ) → t ≡ text (part body start blank)
-      → (start + length t ≤ end) × (start + length t ≡ endAbove (lines (take end body)))
-  ends h t e =
+  ends : end ≤ length body → (n : ℕ) → n ≡ length (text (part body start blank))
+      → (start + n ≤ end) × (start + n ≡ endAbove (lines (take end body)))
+  ends h n e =
       let l : blank ≤ length body = omega (arith, in-order .1) in
       rw e (omega (arith, text-end-within body start blank s l, in-order .1), end-above-is body start blank s l end b h)
 
@@ -48,14 +48,14 @@ trim-line-ending-requires c κs = search needs
 
 add-result : tie.Need-add-result
 add-result c =
-    let l = c .before .before in
-    let k = ends _ _ _ _ (l .before .line-start .ensures) (l .line-start2 .ensures) (search needs) _ (c .trim-line-ending .ensures) .0 in
+    let l = c .before .before .before in
+    let k = ends _ _ _ _ (l .before .line-start .ensures) (l .line-start2 .ensures) (search needs) _ (c .before .trim-line-ending .ensures .0) .0 in
     search needs
 
 returns : tie.Need-returns
 returns c =
-    let l = c .before .before in
-    ends _ _ _ _ (l .before .line-start .ensures) (l .line-start2 .ensures) (search needs) _ (c .trim-line-ending .ensures) .1
+    let l = c .before .before .before in
+    ends _ _ _ _ (l .before .line-start .ensures) (l .line-start2 .ensures) (search needs) _ (c .before .trim-line-ending .ensures .0) .1
 
 pub end-above-spec : {M : Type 1} → statement M
 end-above-spec =

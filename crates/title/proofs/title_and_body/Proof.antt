@@ -82,7 +82,7 @@ returns c =
     let m = c .before .before .before in let n = m .before .before in let l = n .before .before .before in
     let some = c .before .before .if1 .taken in
     let ended = line-ended (text n) (l .loop .at) _ _ (omega arith) (n .line-len .ensures) (m .newline-len .ensures) some in
-    omega (arith, ended, ap length (c .trim-line-ending .ensures))
+    omega (arith, ended, c .trim-line-ending .ensures .0)
 
 add-t17 : tie.Need-add-t17 Inv-loop μ-loop
 add-t17 c =

@@ -1,5 +1,5 @@
 -- `replay::answers::walk_agrees` meets its contract. The invariant: the buffer keeps its length. The measure is the steps that are left.
--- The search finds every need. Assumes nothing.
+-- The search finds every need; that a step more fits, it finds once it is told the input's bound. Assumes nothing.
 use Prim.Native.Nat.{suc, _-_}
 use mathlib.Core.Path.{_≡_}
 use borrow.Author.Needs.{needs}
@@ -32,7 +32,7 @@ walk-agrees-spec =
     (λ c. search needs)
     (λ c. search needs)
     (λ c. search needs)
-    (λ c. search needs)
+    (λ c. search (needs, c .before .before .before .before .before .before .before .before .before .before .before .before .before .before .before .before .good .1 .1 .0))
     (λ c. search needs)
     (λ c. search needs)
     (λ c. search needs)
