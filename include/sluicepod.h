@@ -78,6 +78,15 @@ enum sluicepod_kind {
     SLUICEPOD_AUTHOR = 8          /* Signed-off-by or Co-authored-by */
 };
 
+/* How a line ends. A CR without an LF behind it ends a line only at the input's end; elsewhere it is text, and so is
+ * every CR but the one right before the LF. */
+enum sluicepod_ending {
+    SLUICEPOD_LF = 0,       /* LF */
+    SLUICEPOD_CR_LF = 1,    /* CR LF */
+    SLUICEPOD_CR = 2,       /* a CR alone */
+    SLUICEPOD_NO_ENDING = 3 /* none */
+};
+
 /* The title and the body of a message. The title begins at 0, the body ends at the message's end.
  * Values: where the title ends, where the body starts; the first alone where there is no body. */
 uint32_t sluicepod_title_and_body(const uint8_t *message, size_t message_len, size_t *result, size_t result_len);
@@ -91,7 +100,9 @@ uint32_t sluicepod_summary(const uint8_t *title, size_t title_len, uint8_t *out,
 uint32_t sluicepod_message_summary(const uint8_t *message, size_t message_len, uint8_t *out, size_t out_len,
                                    size_t *result, size_t result_len);
 
-/* Where the trailer block of a body starts. Values: the start; the body's length where there is no block. */
+/* Where the trailer block of a body starts, and how the body's last line ends that is not blank.
+ * Values: the start, which is the body's length where there is no block; an enum sluicepod_ending, that of the last line
+ * that is not blank, whether or not there is a block, and SLUICEPOD_NO_ENDING where every line is blank. */
 uint32_t sluicepod_block_start(const uint8_t *body, size_t body_len, size_t *result, size_t result_len);
 
 /* Where the walk of a message's trailers begins: hand it to sluicepod_next_trailer, with the message as the body.
@@ -99,14 +110,16 @@ uint32_t sluicepod_block_start(const uint8_t *body, size_t body_len, size_t *res
 uint32_t sluicepod_message_trailers(const uint8_t *message, size_t message_len, size_t *result, size_t result_len);
 
 /* The next trailer from the position `at` on whose token is of the kind. The walk of a body begins at its block's start.
- * Values: the token's start, the token's end, the value's place (three), the position to go on from;
- * at the end of the walk the position alone, which is the body's length. */
+ * Values: the token's start, the token's end, the value's place (three), the position to go on from, an enum
+ * sluicepod_ending, that of the trailer's last line; at the end of the walk the position alone, which is the body's
+ * length. */
 uint32_t sluicepod_next_trailer(const uint8_t *body, size_t body_len, size_t at, uint32_t kind, uint8_t *out,
                                 size_t out_len, size_t *result, size_t result_len);
 
 /* The last trailer of a body whose token is `name`, ASCII case aside: of an offload that was retried, the state that
  * holds. An empty name is found nowhere. Only that trailer's value is written, and only for it room is needed.
- * Values: the token's start, the token's end, the value's place (three); none where there is no such trailer. */
+ * Values: the token's start, the token's end, the value's place (three), an enum sluicepod_ending, that of the trailer's
+ * last line; none where there is no such trailer. */
 uint32_t sluicepod_find_trailer(const uint8_t *body, size_t body_len, const uint8_t *name, size_t name_len,
                                 uint8_t *out, size_t out_len, size_t *result, size_t result_len);
 

@@ -1,4 +1,5 @@
-/* The calls of include/sluicepod.h, through the archive: document 01's cases by their numbers, a walk, the refusals, and commit objects.
+/* The calls of include/sluicepod.h, through the archive: document 01's cases by their numbers, line ends, a walk, the
+ * refusals, and commit objects.
  * Each check gives a call, the code that it must return, what it must write to the front of `out`, and what to the front
  * of `result`: how many values there are, and the values. All behind that must be as it was. */
 #include <stdio.h>
@@ -78,19 +79,19 @@ static void titles_and_summaries(void) {
 
 static void starts_and_blocks(void) {
     /* 6 */
-    EXPECT(sluicepod_block_start(BYTES("x\r\n\r\nA: b"), RESULT), SLUICEPOD_OK, "", 1, 1);
+    EXPECT(sluicepod_block_start(BYTES("x\r\n\r\nA: b"), RESULT), SLUICEPOD_OK, "", 2, 1, SLUICEPOD_NO_ENDING);
     EXPECT(sluicepod_next_block(BYTES("x\r\n\r\nA: b"), 0, 1, RESULT), SLUICEPOD_OK, "", 4, 5, 9, 9, 9);
     EXPECT(sluicepod_next_block(BYTES("x\r\n\r\nA: b"), 9, 9, RESULT), SLUICEPOD_OK, "", 2, 9, 9);
     /* 7 and 8 */
-    EXPECT(sluicepod_block_start(BYTES("Signed-off-by: a\nx\ny\nz"), RESULT), SLUICEPOD_OK, "", 1, 0);
-    EXPECT(sluicepod_block_start(BYTES("Signed-off-by: a\nx\ny\nz\nw"), RESULT), SLUICEPOD_OK, "", 1, 24);
+    EXPECT(sluicepod_block_start(BYTES("Signed-off-by: a\nx\ny\nz"), RESULT), SLUICEPOD_OK, "", 2, 0, SLUICEPOD_NO_ENDING);
+    EXPECT(sluicepod_block_start(BYTES("Signed-off-by: a\nx\ny\nz\nw"), RESULT), SLUICEPOD_OK, "", 2, 24, SLUICEPOD_NO_ENDING);
     /* 9 to 11 */
-    EXPECT(sluicepod_block_start(BYTES("Signed-off-by:a\nx"), RESULT), SLUICEPOD_OK, "", 1, 17);
-    EXPECT(sluicepod_block_start(BYTES("(cherry picked from commit 1)"), RESULT), SLUICEPOD_OK, "", 1, 0);
+    EXPECT(sluicepod_block_start(BYTES("Signed-off-by:a\nx"), RESULT), SLUICEPOD_OK, "", 2, 17, SLUICEPOD_NO_ENDING);
+    EXPECT(sluicepod_block_start(BYTES("(cherry picked from commit 1)"), RESULT), SLUICEPOD_OK, "", 2, 0, SLUICEPOD_NO_ENDING);
     EXPECT(sluicepod_next_block(BYTES("(cherry picked from commit 1)"), 0, 0, RESULT), SLUICEPOD_OK, "", 4, 29, 29, 29, 29);
-    EXPECT(sluicepod_block_start(BYTES(" c\nA: b"), RESULT), SLUICEPOD_OK, "", 1, 7);
+    EXPECT(sluicepod_block_start(BYTES(" c\nA: b"), RESULT), SLUICEPOD_OK, "", 2, 7, SLUICEPOD_NO_ENDING);
     /* 14: the first message is empty, the second is "x\n" */
-    EXPECT(sluicepod_block_start(BYTES("A: b\nSigned-off-by: c\nx\nD: e\n"), RESULT), SLUICEPOD_OK, "", 1, 0);
+    EXPECT(sluicepod_block_start(BYTES("A: b\nSigned-off-by: c\nx\nD: e\n"), RESULT), SLUICEPOD_OK, "", 2, 0, SLUICEPOD_LF);
     EXPECT(sluicepod_next_block(BYTES("A: b\nSigned-off-by: c\nx\nD: e\n"), 0, 0, RESULT), SLUICEPOD_OK, "", 4, 0, 22, 22, 22);
     EXPECT(sluicepod_next_block(BYTES("A: b\nSigned-off-by: c\nx\nD: e\n"), 22, 22, RESULT), SLUICEPOD_OK, "", 4, 24, 29, 29, 29);
     EXPECT(sluicepod_next_block(BYTES("A: b\nSigned-off-by: c\nx\nD: e\n"), 29, 29, RESULT), SLUICEPOD_OK, "", 2, 29, 29);
@@ -98,29 +99,50 @@ static void starts_and_blocks(void) {
 
 static void trailers(void) {
     /* 7: one trailer, then the end; 8 and 10: none */
-    EXPECT(sluicepod_next_trailer(BYTES("Signed-off-by: a\nx\ny\nz"), 0, SLUICEPOD_ALL, OUT, RESULT), SLUICEPOD_OK, "", 6, 0, 13, 0, 15, 16, 17);
+    EXPECT(sluicepod_next_trailer(BYTES("Signed-off-by: a\nx\ny\nz"), 0, SLUICEPOD_ALL, OUT, RESULT), SLUICEPOD_OK, "", 7, 0, 13, 0, 15, 16, 17, SLUICEPOD_LF);
     EXPECT(sluicepod_next_trailer(BYTES("Signed-off-by: a\nx\ny\nz"), 17, SLUICEPOD_ALL, OUT, RESULT), SLUICEPOD_OK, "", 1, 22);
     EXPECT(sluicepod_next_trailer(BYTES("Signed-off-by: a\nx\ny\nz\nw"), 24, SLUICEPOD_ALL, OUT, RESULT), SLUICEPOD_OK, "", 1, 24);
     EXPECT(sluicepod_next_trailer(BYTES("(cherry picked from commit 1)"), 0, SLUICEPOD_ALL, OUT, RESULT), SLUICEPOD_OK, "", 1, 29);
     /* 12: the vertical tab is no blank, so the value goes on */
-    EXPECT(sluicepod_block_start(BYTES("A: b\n\t\v\n c"), RESULT), SLUICEPOD_OK, "", 1, 0);
-    EXPECT(sluicepod_next_trailer(BYTES("A: b\n\t\v\n c"), 0, SLUICEPOD_ALL, OUT, RESULT), SLUICEPOD_OK, "b c", 6, 0, 1, 1, 0, 3, 10);
+    EXPECT(sluicepod_block_start(BYTES("A: b\n\t\v\n c"), RESULT), SLUICEPOD_OK, "", 2, 0, SLUICEPOD_NO_ENDING);
+    EXPECT(sluicepod_next_trailer(BYTES("A: b\n\t\v\n c"), 0, SLUICEPOD_ALL, OUT, RESULT), SLUICEPOD_OK, "b c", 7, 0, 1, 1, 0, 3, 10, SLUICEPOD_NO_ENDING);
     /* 13 */
-    EXPECT(sluicepod_next_trailer(BYTES("Acked-by : A"), 0, SLUICEPOD_ALL, OUT, RESULT), SLUICEPOD_OK, "", 6, 0, 8, 0, 11, 12, 12);
+    EXPECT(sluicepod_next_trailer(BYTES("Acked-by : A"), 0, SLUICEPOD_ALL, OUT, RESULT), SLUICEPOD_OK, "", 7, 0, 8, 0, 11, 12, 12, SLUICEPOD_NO_ENDING);
     EXPECT(sluicepod_next_trailer(BYTES(":x"), 0, SLUICEPOD_ALL, OUT, RESULT), SLUICEPOD_OK, "", 1, 2);
     /* by kind, by name, in a message */
-    EXPECT(sluicepod_next_trailer(BYTES("A: b\nSigned-off-by: c\nx\nD: e\n"), 0, SLUICEPOD_AUTHOR, OUT, RESULT), SLUICEPOD_OK, "", 6, 5, 18, 0, 20, 21, 22);
-    EXPECT(sluicepod_find_trailer(BYTES("A: b\nSigned-off-by: c\nx\nD: e\n"), BYTES("d"), OUT, RESULT), SLUICEPOD_OK, "", 5, 24, 25, 0, 27, 28);
-    EXPECT(sluicepod_find_trailer(BYTES("A: b\n\t\v\n c"), BYTES("a"), OUT, RESULT), SLUICEPOD_OK, "b c", 5, 0, 1, 1, 0, 3);
+    EXPECT(sluicepod_next_trailer(BYTES("A: b\nSigned-off-by: c\nx\nD: e\n"), 0, SLUICEPOD_AUTHOR, OUT, RESULT), SLUICEPOD_OK, "", 7, 5, 18, 0, 20, 21, 22, SLUICEPOD_LF);
+    EXPECT(sluicepod_find_trailer(BYTES("A: b\nSigned-off-by: c\nx\nD: e\n"), BYTES("d"), OUT, RESULT), SLUICEPOD_OK, "", 6, 24, 25, 0, 27, 28, SLUICEPOD_LF);
+    EXPECT(sluicepod_find_trailer(BYTES("A: b\n\t\v\n c"), BYTES("a"), OUT, RESULT), SLUICEPOD_OK, "b c", 6, 0, 1, 1, 0, 3, SLUICEPOD_NO_ENDING);
     EXPECT(sluicepod_find_trailer(BYTES("A: b"), BYTES(""), OUT, RESULT), SLUICEPOD_OK, "", 0);
     // K4: the last one speaks; the others write nothing and need no room.
     EXPECT(sluicepod_find_trailer(BYTES("Offload-state: partial\nOffload-state: complete\n"), BYTES("offload-state"), out, 0, RESULT),
-           SLUICEPOD_OK, "", 5, 23, 36, 0, 38, 46);
-    EXPECT(sluicepod_find_trailer(BYTES("A: 1\n 2\nA: 3"), BYTES("A"), out, 0, RESULT), SLUICEPOD_OK, "", 5, 8, 9, 0, 11, 12);
+           SLUICEPOD_OK, "", 6, 23, 36, 0, 38, 46, SLUICEPOD_LF);
+    EXPECT(sluicepod_find_trailer(BYTES("A: 1\n 2\nA: 3"), BYTES("A"), out, 0, RESULT), SLUICEPOD_OK, "", 6, 8, 9, 0, 11, 12, SLUICEPOD_NO_ENDING);
     EXPECT(sluicepod_find_trailer(BYTES("A: 1\nA: 2\n 3\n"), BYTES("a"), out, 2, RESULT), SLUICEPOD_NO_ROOM, "", 1, 3);
-    EXPECT(sluicepod_find_trailer(BYTES("A: 1\nA: 2\n 3\n"), BYTES("a"), out, 3, RESULT), SLUICEPOD_OK, "2 3", 5, 5, 6, 1, 0, 3);
+    EXPECT(sluicepod_find_trailer(BYTES("A: 1\nA: 2\n 3\n"), BYTES("a"), out, 3, RESULT), SLUICEPOD_OK, "2 3", 6, 5, 6, 1, 0, 3, SLUICEPOD_LF);
     EXPECT(sluicepod_message_trailers(BYTES("t\n\nx\n\nA: b"), RESULT), SLUICEPOD_OK, "", 1, 4);
     EXPECT(sluicepod_message_trailers(BYTES("t\n\n"), RESULT), SLUICEPOD_OK, "", 1, 3);
+}
+
+/* Document 02's examples of line ends, K2.3 to K2.6, and what is near them. */
+static void endings(void) {
+    /* K2.3: no block; K2.5: blank lines below; K2.6: no line */
+    EXPECT(sluicepod_block_start(BYTES("x\r\n"), RESULT), SLUICEPOD_OK, "", 2, 3, SLUICEPOD_CR_LF);
+    EXPECT(sluicepod_block_start(BYTES("A: b\r\n\n \n"), RESULT), SLUICEPOD_OK, "", 2, 0, SLUICEPOD_CR_LF);
+    EXPECT(sluicepod_block_start(BYTES(""), RESULT), SLUICEPOD_OK, "", 2, 0, SLUICEPOD_NO_ENDING);
+    /* blank lines alone; a CR alone; of two CRs one is text; a CR that is text; blank lines that end otherwise */
+    EXPECT(sluicepod_block_start(BYTES("\r\n \r\n"), RESULT), SLUICEPOD_OK, "", 2, 5, SLUICEPOD_NO_ENDING);
+    EXPECT(sluicepod_block_start(BYTES("x\r"), RESULT), SLUICEPOD_OK, "", 2, 2, SLUICEPOD_CR);
+    EXPECT(sluicepod_block_start(BYTES("x\r\r\n"), RESULT), SLUICEPOD_OK, "", 2, 4, SLUICEPOD_CR_LF);
+    EXPECT(sluicepod_block_start(BYTES("x\ry"), RESULT), SLUICEPOD_OK, "", 2, 3, SLUICEPOD_NO_ENDING);
+    EXPECT(sluicepod_block_start(BYTES("A: b\n\r\n\r"), RESULT), SLUICEPOD_OK, "", 2, 0, SLUICEPOD_LF);
+    /* K2.4, by the step and by name: the last folded line's, not the trailer line's; the other way round; a CR alone; a CR that is text */
+    EXPECT(sluicepod_next_trailer(BYTES("A: b\r\n c\n"), 0, SLUICEPOD_ALL, out, 9, RESULT), SLUICEPOD_OK, "b c", 7, 0, 1, 1, 0, 3, 9, SLUICEPOD_LF);
+    EXPECT(sluicepod_find_trailer(BYTES("A: b\r\n c\n"), BYTES("a"), OUT, RESULT), SLUICEPOD_OK, "b c", 6, 0, 1, 1, 0, 3, SLUICEPOD_LF);
+    EXPECT(sluicepod_next_trailer(BYTES("A: b\n c\r\nD: e"), 0, SLUICEPOD_ALL, OUT, RESULT), SLUICEPOD_OK, "b c", 7, 0, 1, 1, 0, 3, 9, SLUICEPOD_CR_LF);
+    EXPECT(sluicepod_next_trailer(BYTES("A: b\r"), 0, SLUICEPOD_ALL, OUT, RESULT), SLUICEPOD_OK, "", 7, 0, 1, 0, 3, 4, 5, SLUICEPOD_CR);
+    EXPECT(sluicepod_find_trailer(BYTES("A: b\r"), BYTES("A"), OUT, RESULT), SLUICEPOD_OK, "", 6, 0, 1, 0, 3, 4, SLUICEPOD_CR);
+    EXPECT(sluicepod_next_trailer(BYTES("A: b\rc"), 0, SLUICEPOD_ALL, OUT, RESULT), SLUICEPOD_OK, "", 7, 0, 1, 0, 3, 6, 6, SLUICEPOD_NO_ENDING);
 }
 
 /* The lister's example, walked as a caller walks: each trailer as `token: value`. */
@@ -175,10 +197,10 @@ static void places_and_room(void) {
     EXPECT(sluicepod_summary(BYTES("a \n  b"), out, 5, RESULT), SLUICEPOD_OK, "a   b", 3, 1, 0, 5);
     EXPECT(sluicepod_message_summary(BYTES("a\nb"), out, 0, RESULT), SLUICEPOD_NO_ROOM, "", 1, 3);
     EXPECT(sluicepod_next_trailer(BYTES("A: b\n c"), 0, SLUICEPOD_ALL, out, 2, RESULT), SLUICEPOD_NO_ROOM, "", 1, 3);
-    EXPECT(sluicepod_next_trailer(BYTES("A: b\n c"), 0, SLUICEPOD_ALL, out, 3, RESULT), SLUICEPOD_OK, "b c", 6, 0, 1, 1, 0, 3, 7);
+    EXPECT(sluicepod_next_trailer(BYTES("A: b\n c"), 0, SLUICEPOD_ALL, out, 3, RESULT), SLUICEPOD_OK, "b c", 7, 0, 1, 1, 0, 3, 7, SLUICEPOD_NO_ENDING);
     EXPECT(sluicepod_find_trailer(BYTES("A: b\n c"), BYTES("A"), out, 2, RESULT), SLUICEPOD_NO_ROOM, "", 1, 3);
     /* a part of the input needs no room */
-    EXPECT(sluicepod_next_trailer(BYTES("A: b"), 0, SLUICEPOD_ALL, out, 0, RESULT), SLUICEPOD_OK, "", 6, 0, 1, 0, 3, 4, 4);
+    EXPECT(sluicepod_next_trailer(BYTES("A: b"), 0, SLUICEPOD_ALL, out, 0, RESULT), SLUICEPOD_OK, "", 7, 0, 1, 0, 3, 4, 4, SLUICEPOD_NO_ENDING);
     /* no kind: before the place is looked at */
     EXPECT(sluicepod_next_trailer(BYTES("A: b\n c"), 8, 9, OUT, RESULT), SLUICEPOD_NO_KIND, "", 0);
     EXPECT(sluicepod_is_of_kind(BYTES("A: b"), 0, 5, 9, RESULT), SLUICEPOD_NO_KIND, "", 0);
@@ -197,7 +219,7 @@ static void limit(void) {
     EXPECT(sluicepod_summary(input, len + 1, OUT, RESULT), SLUICEPOD_TOO_LONG, "", 0);
     EXPECT(sluicepod_message_summary(input, len, OUT, RESULT), SLUICEPOD_OK, "", 3, 0, 0, len);
     EXPECT(sluicepod_message_summary(input, len + 1, OUT, RESULT), SLUICEPOD_TOO_LONG, "", 0);
-    EXPECT(sluicepod_block_start(input, len, RESULT), SLUICEPOD_OK, "", 1, len);
+    EXPECT(sluicepod_block_start(input, len, RESULT), SLUICEPOD_OK, "", 2, len, SLUICEPOD_NO_ENDING);
     EXPECT(sluicepod_block_start(input, len + 1, RESULT), SLUICEPOD_TOO_LONG, "", 0);
     EXPECT(sluicepod_message_trailers(input, len, RESULT), SLUICEPOD_OK, "", 1, len);
     EXPECT(sluicepod_message_trailers(input, len + 1, RESULT), SLUICEPOD_TOO_LONG, "", 0);
@@ -240,6 +262,7 @@ int main(void) {
     titles_and_summaries();
     starts_and_blocks();
     trailers();
+    endings();
     walk();
     kinds();
     places_and_room();
