@@ -8,7 +8,7 @@
 
 use std::ops::Range;
 
-use crate::{Refusal, Report};
+use crate::{Ending, Refusal, Report};
 
 /// Which tokens are meant, by the header's numbers.
 #[derive(Clone, Copy)]
@@ -31,10 +31,11 @@ pub enum Place {
     Out,
 }
 
-/// A trailer: where its token and its value stand.
+/// A trailer: where its token and its value stand, and how its last line ends.
 pub struct Found {
     pub token: Range<usize>,
     pub value: Place,
+    pub ending: Ending,
 }
 
 /// A step of the trailer walk: what it found, if it is not at the end, and the position to go on from.
@@ -82,10 +83,11 @@ pub fn message_summary(message: &[u8], out: &mut [u8]) -> Result<Place, Refusal>
     Ok(place(held, start, end))
 }
 
-/// Where the trailer block of a body starts.
-pub fn block_start(body: &[u8]) -> Result<usize, Refusal> {
-    let [_, start, ..] = ask(|result, len| unsafe { sluicepod_block_start(body.as_ptr(), body.len(), result, len) })?;
-    Ok(start)
+/// Where the trailer block of a body starts, and how the body's last line ends that is not blank.
+pub fn block_start(body: &[u8]) -> Result<(usize, Ending), Refusal> {
+    let [_, start, number, ..] =
+        ask(|result, len| unsafe { sluicepod_block_start(body.as_ptr(), body.len(), result, len) })?;
+    Ok((start, ending(number)))
 }
 
 /// Where the walk of a message's trailers begins.
@@ -110,10 +112,11 @@ pub fn next_trailer(body: &[u8], at: usize, kind: Kind, out: &mut [u8]) -> Resul
         )
     })?;
     Ok(match answer {
-        [6, token_start, token_end, held, start, end, next, ..] => TrailerStep {
+        [7, token_start, token_end, held, start, end, next, number, ..] => TrailerStep {
             found: Some(Found {
                 token: token_start..token_end,
                 value: place(held, start, end),
+                ending: ending(number),
             }),
             next,
         },
@@ -136,9 +139,10 @@ pub fn find_trailer(body: &[u8], name: &[u8], out: &mut [u8]) -> Result<Option<F
         )
     })?;
     Ok(match answer {
-        [5, token_start, token_end, held, start, end, ..] => Some(Found {
+        [6, token_start, token_end, held, start, end, number, ..] => Some(Found {
             token: token_start..token_end,
             value: place(held, start, end),
+            ending: ending(number),
         }),
         _ => None,
     })
@@ -258,6 +262,16 @@ fn place(held: usize, start: usize, end: usize) -> Place {
     match held {
         0 => Place::Input(start..end),
         _ => Place::Out,
+    }
+}
+
+/// The ending that has the header's number.
+fn ending(number: usize) -> Ending {
+    match number {
+        0 => Ending::Lf,
+        1 => Ending::CrLf,
+        2 => Ending::Cr,
+        _ => Ending::None,
     }
 }
 

@@ -3,7 +3,7 @@ use std::{borrow::Cow, iter, ops::Deref};
 use crate::{
     archive::{self, Found, Kind},
     value::{value, with_room},
-    Refusal,
+    Ending, Refusal,
 };
 
 /// The body of a message, with its trailers told from the rest.
@@ -28,6 +28,7 @@ pub struct BodyRef<'a> {
     body: &'a [u8],
     // At most the body's length.
     trailer_start: usize,
+    ending: Ending,
 }
 
 impl<'a> BodyRef<'a> {
@@ -37,8 +38,12 @@ impl<'a> BodyRef<'a> {
     ///
     /// [`Refusal::TooLong`], where the body is longer than [`LIMIT`](crate::LIMIT).
     pub fn from_bytes(body: &'a [u8]) -> Result<Self, Refusal> {
-        let trailer_start = archive::block_start(body)?;
-        Ok(BodyRef { body, trailer_start })
+        let (trailer_start, ending) = archive::block_start(body)?;
+        Ok(BodyRef {
+            body,
+            trailer_start,
+            ending,
+        })
     }
 
     /// Where the trailer block starts in the body; the body's length where there is none.
@@ -46,6 +51,21 @@ impl<'a> BodyRef<'a> {
     /// The block begins with the end of the line above the blank line that it stands under.
     pub fn trailer_start(&self) -> usize {
         self.trailer_start
+    }
+
+    /// How the body's last line ends that is not blank, whether or not there is a trailer block; [`Ending::None`] where
+    /// every line is blank.
+    ///
+    /// ```
+    /// use sluicepod::{BodyRef, Ending};
+    ///
+    /// assert_eq!(BodyRef::from_bytes(b"Written in the office.\r\n")?.ending(), Ending::CrLf);
+    /// assert_eq!(BodyRef::from_bytes(b"Vehicle: 22\r\n\n \n")?.ending(), Ending::CrLf);
+    /// assert_eq!(BodyRef::from_bytes(b"")?.ending(), Ending::None);
+    /// # Ok::<(), sluicepod::Refusal>(())
+    /// ```
+    pub fn ending(&self) -> Ending {
+        self.ending
     }
 
     /// The body up to its trailer block.
@@ -187,6 +207,10 @@ pub struct TrailerRef<'a> {
     /// A value of one line is borrowed. One that goes on in indented lines is owned: its lines are trimmed, and those
     /// that are not empty joined by one space.
     pub value: Cow<'a, [u8]>,
+    /// How its last line ends: where the value goes on in indented lines, the last of these.
+    ///
+    /// The original has no such field; it counts when two trailers are compared, as the others do.
+    pub ending: Ending,
 }
 
 impl<'a> TrailerRef<'a> {
@@ -194,6 +218,7 @@ impl<'a> TrailerRef<'a> {
         TrailerRef {
             token: &input[found.token],
             value: value(input, found.value, out),
+            ending: found.ending,
         }
     }
 }

@@ -7,8 +7,8 @@
 //! - The calls that are given bytes answer with a [`Result`]: they refuse input longer than [`LIMIT`].
 //! - Bytes are `[u8]`, not `BStr`: the crate has no dependencies.
 //! - `CommitRef::message_summary()` and `CommitRef::message_trailers()` are functions that take the commit's message.
-//! - [`BodyRef::find`] and [`BodyRef::trailer_start`] are added; so are [`CommitObject`], [`mailbox`], which tells who signed,
-//!   and bundles: [`write_bundle`], [`Bundle`].
+//! - [`BodyRef::find`] and [`BodyRef::trailer_start`] are added; so are how lines end ([`BodyRef::ending`] and the field
+//!   [`TrailerRef::ending`]), [`CommitObject`], [`mailbox`], which tells who signed, and bundles: [`write_bundle`], [`Bundle`].
 //!
 //! A value that is a part of the input is borrowed, and one that had to be written is owned. No input makes a call panic.
 //!
@@ -28,6 +28,7 @@ mod archive;
 mod body;
 mod bundle;
 mod commit;
+mod ending;
 mod mailbox;
 mod message;
 mod refusal;
@@ -36,6 +37,7 @@ mod value;
 pub use body::{BodyRef, MessageBlock, MessageBlocks, TrailerRef, Trailers};
 pub use bundle::{write_bundle, write_bundle_into, Bundle, Report};
 pub use commit::{CommitObject, HeaderLine};
+pub use ending::Ending;
 pub use mailbox::{mailbox, Mailbox};
 pub use message::{message_summary, message_trailers, MessageRef};
 pub use refusal::Refusal;

@@ -2,7 +2,7 @@
 
 use std::{borrow::Cow, error::Error};
 
-use sluicepod::{message_summary, message_trailers, BodyRef, MessageRef, Refusal, TrailerRef, LIMIT};
+use sluicepod::{message_summary, message_trailers, BodyRef, Ending, MessageRef, Refusal, TrailerRef, LIMIT};
 
 #[test]
 fn one_byte_more_is_refused() {
@@ -40,6 +40,7 @@ fn what_is_over_the_limit_by_hand() {
     let trailer = TrailerRef {
         token: &long,
         value: Cow::Borrowed(b""),
+        ending: Ending::None,
     };
     assert!(!trailer.is_attribution());
     assert_eq!(BodyRef::from_bytes(b"x: y").unwrap().find(&long), None);

@@ -2,7 +2,7 @@
 
 use std::borrow::Cow;
 
-use sluicepod::{message_summary, message_trailers, BodyRef, MessageRef, TrailerRef};
+use sluicepod::{message_summary, message_trailers, BodyRef, Ending, MessageRef, TrailerRef};
 
 /// A part of the message, from its start up to its end.
 type Part = (usize, usize);
@@ -161,8 +161,12 @@ fn replay_blocks(list: &mut List<'_>, input: &[u8], body: &BodyRef<'_>) {
 }
 
 fn replay_as_token(list: &mut List<'_>, token: &[u8]) {
-    let value = Cow::Borrowed(&b""[..]);
-    assert_eq!(questions(&TrailerRef { token, value }), list.number());
+    let trailer = TrailerRef {
+        token,
+        value: Cow::Borrowed(b""),
+        ending: Ending::None,
+    };
+    assert_eq!(questions(&trailer), list.number());
 }
 
 #[test]

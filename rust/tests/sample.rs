@@ -4,7 +4,8 @@
 use std::borrow::Cow;
 
 use sluicepod::{
-    message_summary, message_trailers, BodyRef, MessageBlock, MessageBlocks, MessageRef, Refusal, TrailerRef, Trailers,
+    message_summary, message_trailers, BodyRef, Ending, MessageBlock, MessageBlocks, MessageRef, Refusal, TrailerRef,
+    Trailers,
 };
 
 /// Whether a commit says that its offload is complete.
@@ -111,6 +112,7 @@ fn records_can_be_compared_ordered_and_hashed() -> Result<(), Refusal> {
     is_plain_data(&TrailerRef {
         token: b"A",
         value: Cow::Borrowed(b"b"),
+        ending: Ending::None,
     });
     Ok(())
 }
