@@ -1,4 +1,4 @@
-//! Names the folder from which the three files of the original are compiled.
+//! Names the folder from which the three files of the original are compiled, and copies the text of its line rule.
 
 use std::{env, fs, path::PathBuf};
 
@@ -23,4 +23,17 @@ fn main() {
     let module = format!("#[path = {root:?}]\npub mod message;\n");
     let out = PathBuf::from(env::var_os("OUT_DIR").unwrap()).join("message.rs");
     fs::write(out, module).unwrap();
+
+    let body = fs::read_to_string(message.join("body.rs")).unwrap();
+    let out = PathBuf::from(env::var_os("OUT_DIR").unwrap()).join("line.rs");
+    fs::write(out, function(&body, "trim_line_ending")).unwrap();
+}
+
+/// The text of a function at a file's top level.
+fn function<'a>(file: &'a str, name: &str) -> &'a str {
+    let start = file
+        .find(&format!("fn {name}("))
+        .unwrap_or_else(|| panic!("there is no {name}"));
+    let len = file[start..].find("\n}\n").expect("the function ends") + "\n}\n".len();
+    &file[start..start + len]
 }

@@ -56,12 +56,22 @@ impl Value {
     }
 }
 
-/// One step of the trailer walk: the trailer, and where the walk goes on.
+/// How a line ends.
+#[derive(Clone, Copy, Debug, PartialEq, Eq)]
+pub enum Ending {
+    Lf,
+    CrLf,
+    Cr,
+    None,
+}
+
+/// One step of the trailer walk: the trailer, where the walk goes on, and how the trailer's last line ends.
 #[derive(Clone, Debug, PartialEq, Eq)]
 pub struct Trailer {
     pub token: Part,
     pub value: Value,
     pub next: usize,
+    pub ending: Ending,
 }
 
 impl Trailer {
@@ -70,6 +80,7 @@ impl Trailer {
             token: self.token.moved(by),
             value: self.value.moved(by),
             next: self.next + by,
+            ending: self.ending,
         }
     }
 }
@@ -132,6 +143,8 @@ pub struct Reading {
 
     // As a body.
     pub block_start: usize,
+    /// That of the last line that is not blank; none where every line is blank.
+    pub ending: Ending,
     pub trailers: Vec<Trailer>,
     pub filtered: [Vec<Trailer>; 5],
     /// For each of `trailers`, what its token is.
@@ -261,6 +274,6 @@ pub fn difference(left: &Answer, right: &Answer) -> Option<Difference> {
         };
     }
     in_order!(title_end body_start summary message_summary message_walk_start message_trailers message_filtered
-        block_start trailers filtered attributions blocks steps block_steps found as_token);
+        block_start ending trailers filtered attributions blocks steps block_steps found as_token);
     None
 }

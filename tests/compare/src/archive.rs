@@ -26,6 +26,12 @@ pub const TESTED_BY: u32 = 6;
 pub const ATTRIBUTION: u32 = 7;
 pub const AUTHOR: u32 = 8;
 
+/// The endings of lines.
+pub const LF: usize = 0;
+pub const CR_LF: usize = 1;
+pub const CR: usize = 2;
+pub const NO_ENDING: usize = 3;
+
 mod declared {
     extern "C" {
         pub fn sluicepod_title_and_body(

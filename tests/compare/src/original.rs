@@ -18,7 +18,7 @@ use original::{
 };
 
 use crate::answers::{
-    block_cursors, names, places, Answer, Attribution, Block, Filter, NoReading, Part, Reading, Trailer, Value,
+    block_cursors, names, places, Answer, Attribution, Block, Ending, Filter, NoReading, Part, Reading, Trailer, Value,
     FILTERS, LIMIT,
 };
 
@@ -48,6 +48,32 @@ pub fn message_summary(message: &[u8]) -> Value {
 /// Where the trailer block of a body begins; the body's length where there is none.
 pub fn block_start(body: &[u8]) -> usize {
     BodyRef::from_bytes(body).without_trailer().len()
+}
+
+/// How the body's last line ends that is not blank; none where every line is blank. The original does not say it: the lines
+/// are read plainly here, from the last one up, and what ends the one that is found is left to the original's line rule.
+pub fn body_ending(body: &[u8]) -> Ending {
+    let mut end = body.len();
+    while end > 0 {
+        let start = body[..end - 1].rfind_byte(b'\n').map_or(0, |lf| lf + 1);
+        if !body[start..end].iter().all(u8::is_ascii_whitespace) {
+            return ending(&body[start..end]);
+        }
+        end = start;
+    }
+    Ending::None
+}
+
+/// What the original's line rule leaves off the last of some lines.
+fn ending(lines: &[u8]) -> Ending {
+    let last = lines.lines_with_terminator().last().unwrap_or_default();
+    match &last[original::line_text(last).len()..] {
+        b"\n" => Ending::Lf,
+        b"\r\n" => Ending::CrLf,
+        b"\r" => Ending::Cr,
+        b"" => Ending::None,
+        other => unreachable!("the line rule leaves off {other:?}"),
+    }
 }
 
 /// The trailers of a body.
@@ -198,6 +224,7 @@ pub fn read(input: &[u8]) -> Reading {
         }),
         message_trailers,
         block_start: body.without_trailer().len(),
+        ending: body_ending(input),
         filtered: FILTERS.map(|filter| match trailers[..] {
             [] => Vec::new(),
             _ => through(input, body.trailers(), filter, &trailers),
@@ -283,10 +310,13 @@ fn value(input: &[u8], answer: Cow<'_, BStr>) -> Value {
 
 fn next(input: &[u8], walk: &mut Trailers<'_>) -> Option<Trailer> {
     let trailer = walk.next()?;
+    let token = part(input, trailer.token);
+    let next = part(input, original::rest(walk)).start;
     Some(Trailer {
-        token: part(input, trailer.token),
+        token,
         value: value(input, trailer.value),
-        next: part(input, original::rest(walk)).start,
+        next,
+        ending: ending(&input[token.start..next]),
     })
 }
 
@@ -298,7 +328,8 @@ fn all(input: &[u8], mut walk: Trailers<'_>) -> Vec<Trailer> {
     trailers
 }
 
-/// A filter hides where the walk behind it stands; the same trailer of the open walk tells it.
+/// A filter hides where the walk behind it stands, and with it how the trailer's last line ends; the same trailer of the
+/// open walk tells them.
 fn with_next<'a>(input: &[u8], walked: &[Trailer], kept: impl Iterator<Item = TrailerRef<'a>>) -> Vec<Trailer> {
     let mut walked = walked.iter();
     kept.map(|trailer| {
@@ -310,6 +341,7 @@ fn with_next<'a>(input: &[u8], walked: &[Trailer], kept: impl Iterator<Item = Tr
             token,
             value: value(input, trailer.value),
             next: step.next,
+            ending: step.ending,
         }
     })
     .collect()
@@ -379,6 +411,40 @@ mod tests {
 
         let two = parts(b"A: b\nSigned-off-by: c\nx\nD: e\n");
         assert_eq!(two, [(part(0, 0), part(0, 22)), (part(22, 24), part(24, 29))]);
+    }
+
+    #[test]
+    fn the_examples_of_line_ends_of_document_02() {
+        let line = |line| (original::line_text(line).len(), ending(line));
+        assert_eq!(line(b"a\r\r\n"), (2, Ending::CrLf));
+        assert_eq!(line(b"a\r"), (1, Ending::Cr));
+        assert_eq!(line(b"a\rb"), (3, Ending::None));
+
+        let start = |body| (block_start(body), body_ending(body));
+        assert_eq!(start(b"x\r\n"), (3, Ending::CrLf));
+        assert_eq!(start(b"A: b\r\n\n \n"), (0, Ending::CrLf));
+        assert_eq!(start(b""), (0, Ending::None));
+        assert_eq!(start(b"\r\n \n"), (4, Ending::None));
+
+        let folded = step(b"A: b\r\n c\n", 0).unwrap();
+        assert_eq!(
+            (folded.value, folded.next, folded.ending),
+            (written(b"b c"), 9, Ending::Lf)
+        );
+    }
+
+    #[test]
+    fn the_line_rule_s_text_ends_where_the_block_start_says() {
+        // The block starts with the ending of the line above the blank line, so there the rule can be seen from outside.
+        for line in ["\n", "a\n", "\r\n", "a\r\n", "a\r\r\n", "a\rb\n"].map(str::as_bytes) {
+            let body = [line, b"\nA:"].concat();
+            assert_eq!(
+                original::line_text(line).len(),
+                block_start(&body),
+                "{}",
+                line.escape_ascii()
+            );
+        }
     }
 
     #[test]

@@ -8,12 +8,12 @@ use std::array;
 
 use crate::{
     answers::{
-        block_cursors, names, places, Answer, Attribution, Block, Filter, NoReading, Part, Reading, Trailer, Value,
-        FILTERS, LIMIT,
+        block_cursors, names, places, Answer, Attribution, Block, Ending, Filter, NoReading, Part, Reading, Trailer,
+        Value, FILTERS, LIMIT,
     },
     archive::{
-        self, ACKED_BY, ALL, ASSISTED_BY, ATTRIBUTION, AUTHOR, BAD_PLACE, CO_AUTHORED_BY, NO_KIND, NO_ROOM, OK,
-        RESULT_LEN, REVIEWED_BY, SHORT_RESULT, SIGNED_OFF_BY, TESTED_BY, TOO_LONG,
+        self, ACKED_BY, ALL, ASSISTED_BY, ATTRIBUTION, AUTHOR, BAD_PLACE, CO_AUTHORED_BY, CR, CR_LF, LF, NO_ENDING,
+        NO_KIND, NO_ROOM, OK, RESULT_LEN, REVIEWED_BY, SHORT_RESULT, SIGNED_OFF_BY, TESTED_BY, TOO_LONG,
     },
     buffers::{ask, Said},
 };
@@ -68,7 +68,7 @@ impl Calls {
     fn read(&self, input: &[u8]) -> Answer {
         let (title_end, body_start) = self.title_and_body(input)?;
         let message_walk_start = self.message_walk_start(input)?;
-        let block_start = self.block_start(input)?;
+        let (block_start, ending) = self.block_start(input)?;
         let trailers = self.walk(input, block_start, ALL)?;
         let attributions: Vec<Attribution> = all(&trailers, |trailer| self.attribution(input, trailer.token))?;
         self.hold_other_kinds(input, block_start, &trailers, &attributions)?;
@@ -81,6 +81,7 @@ impl Calls {
             message_trailers: self.walk(input, message_walk_start, ALL)?,
             message_filtered: self.filtered(input, message_walk_start)?,
             block_start,
+            ending,
             filtered: self.filtered(input, block_start)?,
             attributions,
             blocks: self.blocks(input, block_start)?,
@@ -134,10 +135,10 @@ impl Calls {
         }
     }
 
-    fn block_start(&self, body: &[u8]) -> Found<usize> {
+    fn block_start(&self, body: &[u8]) -> Found<(usize, Ending)> {
         let told = told(|result| (self.block_start)(body, result))?;
         match (told.code, told.values()) {
-            (OK, &[start]) => Ok(start),
+            (OK, &[start, number]) => Ok((start, ending(number)?)),
             _ => told.broke(),
         }
     }
@@ -154,10 +155,11 @@ impl Calls {
         let (told, written) = asked(2, |out, result| (self.next_trailer)(body, at, kind, out, result))?;
         match (told.code, told.values()) {
             (OK, &[end]) if end == body.len() => Ok(None),
-            (OK, &[start, end, held, from, to, next]) => Ok(Some(Trailer {
+            (OK, &[start, end, held, from, to, next, number]) => Ok(Some(Trailer {
                 token: part(body, start, end)?,
                 value: value(body, [held, from, to], written)?,
                 next,
+                ending: ending(number)?,
             })),
             _ => told.broke(),
         }
@@ -186,10 +188,11 @@ impl Calls {
         let (told, written) = asked(2, |out, result| (self.find_trailer)(body, name, out, result))?;
         match (told.code, told.values()) {
             (OK, &[]) => Ok(None),
-            (OK, &[start, end, held, from, to]) => Ok(Some(Trailer {
+            (OK, &[start, end, held, from, to, number]) => Ok(Some(Trailer {
                 token: part(body, start, end)?,
                 value: value(body, [held, from, to], written)?,
                 next: self.step(body, start, ALL)?.map_or(start, |trailer| trailer.next),
+                ending: ending(number)?,
             })),
             _ => told.broke(),
         }
@@ -432,6 +435,16 @@ fn value(input: &[u8], place: [usize; 3], written: Vec<u8>) -> Found<Value> {
     }
 }
 
+fn ending(number: usize) -> Found<Ending> {
+    match number {
+        LF => Ok(Ending::Lf),
+        CR_LF => Ok(Ending::CrLf),
+        CR => Ok(Ending::Cr),
+        NO_ENDING => Ok(Ending::None),
+        _ => broke(format!("an ending of the number {number}")),
+    }
+}
+
 fn part(input: &[u8], start: usize, end: usize) -> Found<Part> {
     if start <= end && end <= input.len() {
         return Ok(Part { start, end });
@@ -486,7 +499,7 @@ mod tests {
         fn first_line_only(body: &[u8], at: usize, kind: u32, out: &mut [u8], result: &mut [usize]) -> u32 {
             let mut all = vec![0; body.len()];
             let code = archive::next_trailer(body, at, kind, &mut all, result);
-            if code != OK || result[0] != 6 || result[3] == 0 {
+            if code != OK || result[0] != 7 || result[3] == 0 {
                 return code;
             }
             let len = all[..result[5]]
@@ -510,10 +523,63 @@ mod tests {
     }
 
     #[test]
+    fn cr_lf_that_is_taken_for_lf_is_caught() {
+        fn unix_only(body: &[u8], at: usize, kind: u32, out: &mut [u8], result: &mut [usize]) -> u32 {
+            let code = archive::next_trailer(body, at, kind, out, result);
+            if code == OK && result[0] == 7 && result[7] == CR_LF {
+                result[7] = LF;
+            }
+            code
+        }
+        let faulty = Calls {
+            next_trailer: unix_only,
+            ..ARCHIVE
+        };
+        assert_eq!(caught(&faulty), (b"a:\r\n".to_vec(), "trailers"));
+    }
+
+    #[test]
+    fn the_trailer_line_s_ending_of_a_folded_trailer_is_caught() {
+        fn first_line_s(body: &[u8], name: &[u8], out: &mut [u8], result: &mut [usize]) -> u32 {
+            let code = archive::find_trailer(body, name, out, result);
+            if code == OK && result[0] == 6 {
+                let line = body[result[1]..].split_inclusive(|&byte| byte == b'\n').next();
+                result[6] = match line.unwrap_or_default() {
+                    [.., b'\r', b'\n'] => CR_LF,
+                    [.., b'\n'] => LF,
+                    _ => result[6],
+                };
+            }
+            code
+        }
+        let faulty = Calls {
+            find_trailer: first_line_s,
+            ..ARCHIVE
+        };
+        assert_eq!(caught(&faulty), (b"a:\n a".to_vec(), "found"));
+    }
+
+    #[test]
+    fn a_blank_line_s_ending_is_caught() {
+        fn of_the_last_line(body: &[u8], result: &mut [usize]) -> u32 {
+            let code = archive::block_start(body, result);
+            if code == OK && body.ends_with(b"\n\n") {
+                result[2] = LF;
+            }
+            code
+        }
+        let faulty = Calls {
+            block_start: of_the_last_line,
+            ..ARCHIVE
+        };
+        assert_eq!(caught(&faulty), (b"\n\n".to_vec(), "ending"));
+    }
+
+    #[test]
     fn a_lookup_by_exact_case_is_caught() {
         fn exact(body: &[u8], name: &[u8], out: &mut [u8], result: &mut [usize]) -> u32 {
             let code = archive::find_trailer(body, name, out, result);
-            if code == OK && result[0] == 5 && body[result[1]..result[2]] != *name {
+            if code == OK && result[0] == 6 && body[result[1]..result[2]] != *name {
                 result.fill(KEPT);
                 result[0] = 0;
             }
@@ -559,7 +625,7 @@ mod tests {
         fn clears(body: &[u8], result: &mut [usize]) -> u32 {
             let code = archive::block_start(body, result);
             if code == OK {
-                result[2..].fill(0);
+                result[3..].fill(0);
             }
             code
         }

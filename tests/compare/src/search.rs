@@ -131,7 +131,7 @@ impl<F: Fn(&[u8]) -> bool> Shrinking<F> {
 mod tests {
     use super::*;
     use crate::{
-        answers::{difference, Answer, Part, Reading, Trailer, Value, LIMIT},
+        answers::{difference, Answer, Ending, Part, Reading, Trailer, Value, LIMIT},
         original,
     };
 
@@ -197,6 +197,24 @@ mod tests {
     fn a_walk_that_stops_early_is_found() {
         let shrunk = found(&SHORT, with_fault(|_, reading| reading.trailers.truncate(1)));
         assert_eq!(shrunk, b"a:\na:");
+    }
+
+    #[test]
+    fn an_ending_that_is_not_told_is_found() {
+        let no_lone_cr = |_: &[u8], reading: &mut Reading| {
+            for trailer in &mut reading.trailers {
+                if trailer.ending == Ending::Cr {
+                    trailer.ending = Ending::None;
+                }
+            }
+        };
+        assert_eq!(found(&SHORT, with_fault(no_lone_cr)), b"a:\r");
+        let of_a_block_only = |input: &[u8], reading: &mut Reading| {
+            if reading.block_start == input.len() {
+                reading.ending = Ending::None;
+            }
+        };
+        assert_eq!(found(&SHORT, with_fault(of_a_block_only)), b"a\n");
     }
 
     #[test]

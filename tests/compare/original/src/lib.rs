@@ -27,6 +27,14 @@ pub fn walk(bytes: &[u8]) -> Trailers<'_> {
     Trailers { cursor: bytes }
 }
 
+/// What the original's line rule leaves of a line, its `Line::text`. The rule is private to body.rs and no public answer
+/// shows all that it drops, so build.rs copies its text from there.
+pub fn line_text(line: &[u8]) -> &[u8] {
+    trim_line_ending(line)
+}
+
+include!(concat!(env!("OUT_DIR"), "/line.rs"));
+
 /// What a walk has not read yet.
 pub fn rest<'a>(walk: &Trailers<'a>) -> &'a [u8] {
     walk.cursor

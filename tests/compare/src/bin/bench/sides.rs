@@ -180,15 +180,14 @@ pub mod ours {
     pub fn message_trailers_counted(message: &[u8], out: &mut [u8]) -> u64 {
         let mut result = [0; RESULT_LEN];
         assert_eq!(archive::message_trailers(message, &mut result), OK);
+        let mut from = result[1];
         let mut count = 0;
         loop {
-            assert_eq!(
-                archive::next_trailer(message, result[result[0]], ALL, out, &mut result),
-                OK
-            );
+            assert_eq!(archive::next_trailer(message, from, ALL, out, &mut result), OK);
             if result[0] == 1 {
                 return count;
             }
+            from = result[6];
             count += 1;
         }
     }
