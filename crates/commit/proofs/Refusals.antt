@@ -7,7 +7,7 @@ use Prim.Native.Nat.{ℕ, _-_}
 use Rattle.rules.specs.Bytes.{bytes, LF, space}
 use Rattle.rules.specs.Lines.{Line, LinesOf, none, last, line, lines, LineStart}
 use Rattle.rules.specs.Lists.{join}
-use Rattle.rules.proofs.Lists.{join-append}
+use Rattle.rules.proofs.Lists.{Earlier, cuts, join-append}
 use Rattle.rules.proofs.Lines.{lines-append, lines-of, lines-prefix}
 use Rattle.commit.specs.Grammar.{four, hexDigit, HeaderLine, Good, counted, counts}
 use Rattle.commit.specs.Reader.{Shape, empty, continues, names, wrong, shape, Phase, atTree, atParents, atCommitter, atOthers, atUnder, Turn, on, end, fault}
@@ -209,22 +209,6 @@ line-behind (x ∷ u) w v (line {ls = ls} t a r) e =
     let q : ls ≡ u ++ w ∷ v = cc in
     subst (λ (z : Line). LineStart (z ++ join u)) (sym h) (line-start t (join u) (line-behind u w v r q))
 
--- one of two cuts of a list is before the other, or they are the same
-Earlier : List Line → List Line → List Line → Type 0
-Earlier b a d = (l : Line) × (x : List Line) × (y : List Line) × (a ≡ l ∷ y) × (d ≡ b ++ l ∷ x)
-
-cuts : (b a d e : List Line) → b ++ a ≡ d ++ e → ((b ≡ d) × (a ≡ e)) ⊎ (Earlier b a d ⊎ Earlier d e b)
-unfolding Earlier
-cuts [] a [] e q = inl (refl, q)
-cuts [] a (c ∷ d) e q = inr (inl (c, d, d ++ e, q, refl))
-cuts (c ∷ b) a [] e q = inr (inr (c, b, b ++ a, sym q, refl))
-cuts (c ∷ b) a (k ∷ d) e q = longer (cuts b a d e (cc))
-  where
-    longer : ((b ≡ d) × (a ≡ e)) ⊎ (Earlier b a d ⊎ Earlier d e b) → (((c ∷ b) ≡ k ∷ d) × (a ≡ e)) ⊎ (Earlier (c ∷ b) a (k ∷ d) ⊎ Earlier (k ∷ d) e (c ∷ b))
-    longer (inl (i, j)) = inl (cc, j)
-    longer (inr (inl (m, x, y, i, j))) = inr (inl (m, x, y, i, cc))
-    longer (inr (inr (m, x, y, i, j))) = inr (inr (m, x, y, i, cc))
-
 -- fewer lines of the same content are viable too
 viable-less : (content : List ℕ) (b : List Line) (l : Line) (x e : List Line) → lines content ≡ (b ++ l ∷ x) ++ e → Viable (b ++ l ∷ x) → Viable (b ++ l ∷ [])
 viable-less content b l [] e q v = v
@@ -245,7 +229,6 @@ fault-at : {b : List Line} {l : Line} {y : List Line} {k : ℕ} → Fault b (l �
 fault-at (place.Fault.line f) = f
 
 not-earlier : (content : List ℕ) (b a d e : List Line) (k : ℕ) → lines content ≡ d ++ e → Fault b a k → Viable d → Earlier b a d → ⊥
-unfolding Earlier
 not-earlier content b a d e k q f v (l, x, y, i, j) =
     fault-at (subst (λ (z : List Line). Fault b z k) i f)
     (viable-less content b l x e (q ∙ ap (λ (z : List Line). z ++ e) j) (subst Viable j v))

@@ -10,6 +10,7 @@ use native.Mathlib.Omega.{arith}
 use lib.Dec.{T, eqb, eqb→eq}
 use lib.ListN.{length, length-append}
 use Rattle.rules.specs.Lists.{if_then_else_}
+use Rattle.rules.proofs.Lists.{Earlier, cuts}
 use Rattle.mailbox.specs.Grammar.{whiteByte, atext, quoteText, commentText, takes, Ranges, ranges, Mailbox, Answer, accepted, refused}
 use Rattle.mailbox.specs.Reader.{Named, Half, Home, State, home, atom, quote, quoteTaken, text, dotted, inside, insideTaken, dead, names, opened, behind, closed}
 use Rattle.mailbox.specs.Reader.{local, domain, none, some, fromOf, toOf, signOf, next, opening, closing, begin, spaced, step, finish, read, start, mailbox}
@@ -275,24 +276,7 @@ goes-less deep b c x g =
 stuck-at : (deep : ℕ) (b : List ℕ) (c : ℕ) (y : List ℕ) → place.StopsThere deep b (c ∷ y) → place.GoesOn deep (b ++ c ∷ []) → ⊥
 stuck-at deep b c y (place.StopsThere.byte f) = f
 
--- one of two cuts of a list is before the other, or they are the same
-Earlier : List ℕ → List ℕ → List ℕ → Type 0
-Earlier b a d = (c : ℕ) × (x : List ℕ) × (y : List ℕ) × (a ≡ c ∷ y) × (d ≡ b ++ c ∷ x)
-
-cuts : (b a d e : List ℕ) → b ++ a ≡ d ++ e → ((b ≡ d) × (a ≡ e)) ⊎ (Earlier b a d ⊎ Earlier d e b)
-unfolding Earlier
-cuts [] a [] e q = inl (refl, q)
-cuts [] a (c ∷ d) e q = inr (inl (c, d, d ++ e, q, refl))
-cuts (c ∷ b) a [] e q = inr (inr (c, b, b ++ a, sym q, refl))
-cuts (c ∷ b) a (k ∷ d) e q = longer (cuts b a d e (cc))
-  where
-    longer : ((b ≡ d) × (a ≡ e)) ⊎ (Earlier b a d ⊎ Earlier d e b) → (((c ∷ b) ≡ k ∷ d) × (a ≡ e)) ⊎ (Earlier (c ∷ b) a (k ∷ d) ⊎ Earlier (k ∷ d) e (c ∷ b))
-    longer (inl (i, j)) = inl (cc, j)
-    longer (inr (inl (m, x, y, i, j))) = inr (inl (m, x, y, i, cc))
-    longer (inr (inr (m, x, y, i, j))) = inr (inr (m, x, y, i, cc))
-
 not-earlier : (deep : ℕ) (b a d : List ℕ) → place.StopsThere deep b a → place.GoesOn deep d → Earlier b a d → ⊥
-unfolding Earlier
 not-earlier deep b a d f g (c, x, y, i, j) = stuck-at deep b c y (rw i at f) (goes-less deep b c x (rw j at g))
 
 number-same : (deep : ℕ) (b a : List ℕ) (n m : ℕ) → place.Number deep b a n → place.Number deep b a m → n ≡ m
