@@ -1,7 +1,7 @@
 -- What a scan reads from a place on, and what a line's turn is by the phase. Assumes nothing.
 use mathlib.Core.Bool.{Bool, true, false, and-assoc, _&&_}
 use mathlib.Core.List.{List}
-use mathlib.Core.Path.{_≡_, refl, sym}
+use mathlib.Core.Path.{_≡_, refl, sym, ap}
 use Prim.Native.Nat.{ℕ, suc, _+_, _≤_, _<_}
 use native.Mathlib.Numerals.{add-one}
 use native.Mathlib.Omega.{arith}
@@ -53,16 +53,17 @@ no-space p m = rw (ne-eqb p 3 m) (go (eqb p 0) (eqb p 1) (eqb p 2))
     go false false true = refl
     go false false false = refl
 
-pub on-parents : (p : ℕ) → 5 < p → turnOf p ≡ on (atParents p)
-on-parents p h =
+pub parents-phase : (p : ℕ) → 5 < p → phaseOf p ≡ atParents p
+parents-phase p h =
     rw (
       ne-eqb p 0 (λ e. absurd (omega arith)),
       ne-eqb p 1 (λ e. absurd (omega arith)),
       ne-eqb p 2 (λ e. absurd (omega arith)),
       ne-eqb p 3 (λ e. absurd (omega arith)),
-      ne-eqb p 4 (λ e. absurd (omega arith)),
-      ne-eqb p 5 (λ e. absurd (omega arith)),
     )
+
+pub on-parents : (p : ℕ) → 5 < p → turnOf p ≡ on (atParents p)
+on-parents p h = rw (ne-eqb p 4 (λ e. absurd (omega arith)), ne-eqb p 5 (λ e. absurd (omega arith))) (ap on (parents-phase p h))
 
 -- ---- bytes and identifiers
 

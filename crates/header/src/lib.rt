@@ -1,12 +1,15 @@
 // What a line does in a commit object's header: its name, its identifier, and what may come behind it.
+ghost use mathlib.Core.Bool.{_&&_};
 ghost use mathlib.Core.Path.{_≡_};
 ghost use Prim.Native.Nat.{_+_, _<_, _≤_};
+ghost use lib.Dec.{ltb};
 ghost use lib.ListN.{length, drop};
 ghost use Rattle.rules.specs.Lists.{run};
 ghost use Rattle.commit.specs.Grammar.{nameByte, four, hexDigit};
 ghost use Rattle.commit.specs.Reader.{atTree, atParents, atCommitter, atOthers, emptyLine, spacedLine, namedLine, identifier};
-ghost use Rattle.header.specs.Turns.{phaseOf, turnOf};
+ghost use Rattle.header.specs.Turns.{phaseOf, turnOf, idFront, parentFront};
 use text::fixed::equals;
+use text::fixed::starts_with;
 
 // What may come next in a header: the tree, the committer, another line or the empty one, or also a line that continues the one
 // above. Where a parent or the author may come, it is the length of the identifiers.
@@ -48,10 +51,40 @@ fn is_identifier(content: &[u8], size: usize) -> bool
     good
 }
 
-// Whether a name is one of the four that have their own places.
+// Whether an identifier of a size stands at the front, and an LF behind it.
+fn is_id_front(input: &[u8], size: usize) -> bool
+    ensures { λ r. ⌜ r ≡ idFront size (now (input .entry)) ⌝ }
+{
+    if input.len() <= size {
+        return false;
+    }
+    if input[size] != b'\n' {
+        return false;
+    }
+    is_identifier(&input[0..size], size)
+}
+
+// Whether a parent's line stands at the front, where identifiers of this size may come: the size says where its LF is, so that no
+// search is needed.
+pub fn is_parent_front(input: &[u8], phase: usize) -> bool
+    ensures { λ r. ⌜ r ≡ (ltb 5 phase && parentFront phase (now (input .entry))) ⌝ }
+{
+    if phase <= FAULT {
+        return false;
+    }
+    if !starts_with(input, b"parent ") {
+        return false;
+    }
+    is_id_front(&input[7..], phase)
+}
+
+// Whether a name is one of the four that have their own places. None of them is shorter than four bytes.
 fn is_one_of_four(name: &[u8]) -> bool
     ensures { λ r. ⌜ r ≡ four (now (name .entry)) ⌝ }
 {
+    if name.len() < 4 {
+        return false;
+    }
     equals(name, b"tree")
         | equals(name, b"parent")
         | equals(name, b"author")

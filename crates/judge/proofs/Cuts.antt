@@ -12,13 +12,14 @@ use lib.Seq.{drop-cons, drop-drop, take-append-seam, drop-append-seam}
 use Rattle.rules.specs.Bytes.{LF, space}
 use Rattle.rules.specs.Lines.{Line, inner, lines, last}
 use Rattle.rules.specs.Lists.{All, Stops, filled, run, past}
-use Rattle.rules.proofs.Lists.{run-past, run-all, past-stops, all-append, all-of, is-false}
+use Rattle.rules.proofs.Lists.{run-past, run-all, past-stops, all-append, all-of, is-true, is-false}
 use Rattle.rules.proofs.Lines.{lines-only}
 use Rattle.commit.specs.Grammar.{nameByte}
 use Rattle.commit.specs.Reader.{Shape, empty, continues, names, wrong, shape, unended, textOf, onName, onSpace, step, emptyLine, spacedLine, namedLine}
 use Rattle.commit.proofs.Shapes.{continues-of, names-of, name-inner, not-lf, not-space}
 use Rattle.commit.proofs.Accepts.{whole-line}
 use Rattle.header.specs.Turns.{phaseOf, turnOf}
+use Rattle.header.proofs.Laws.{run-on}
 use Rattle.judge.specs.Scan.{LineTurn}
 use Rattle.judge.specs.declared.Turned.{Turned}
 
@@ -100,12 +101,24 @@ is-space c n t = go (eqb c space) refl
     go true e = eqb→eq c space (rw e tt)
     go false e = absurd (T-not (nameByte c) t (rw (ne-eqb c LF n, e) tt))
 
+-- from a line's start on the LF is found that is found behind its name and the space
+run-behind : (p : ℕ → Bool) (a s : List ℕ) → All p a → length (run p (a ++ s)) ≡ length a + length (run p s)
+run-behind p [] s t = omega arith
+run-behind p (c ∷ a) s t = rw (is-true (p c) (t .0)) (omega (arith, run-behind p a s (t .1)))
+
+pub behind-name : (s : List ℕ) (at q e : ℕ) → Cut nameByte s at q → q < length s → (getD s q 0 ≡ LF → ⊥) → e ≡ at + length (run inner (drop at s))
+    → e ≡ q + 1 + length (run inner (drop (q + 1) s))
+behind-name s at q e k h n d =
+    let name = ap (λ (z : List ℕ). length (run inner z)) (k .splits) ∙ run-behind inner (k .piece) (drop q s) (all-of nameByte inner name-inner (k .piece) (k .passes)) in
+    let byte : inner (getD s q 0) ≡ true = rw (ne-eqb (getD s q 0) LF n) refl in
+    omega (arith, d, name, run-on inner s q h byte, k .long)
+
 -- ---- the six ends of a line
 
 abbrev pub made : ℕ → ℕ → Turned
 made t e = record { turn = t; end = e }
 
-built : (s : List ℕ) (at phase : ℕ) (l : Line) (ls : List Line) (x : Shape) (t e : ℕ) → lines (drop at s) ≡ l ∷ ls → shape l ≡ x → turnOf t ≡ step (phaseOf phase) x
+pub built : (s : List ℕ) (at phase : ℕ) (l : Line) (ls : List Line) (x : Shape) (t e : ℕ) → lines (drop at s) ≡ l ∷ ls → shape l ≡ x → turnOf t ≡ step (phaseOf phase) x
     → e ≡ at + length l → LineTurn s at phase (made t e)
 built s at phase l ls x t e p q r d = record { line = l; rest = ls; splits = p; turns = r ∙ ap (step (phaseOf phase)) (sym q); ends = d }
 

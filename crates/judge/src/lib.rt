@@ -10,6 +10,7 @@ use header::END;
 use header::FAULT;
 use header::TREE;
 use header::empty_turn;
+use header::is_parent_front;
 use header::name_end;
 use header::named_turn;
 use header::spaced_turn;
@@ -32,11 +33,17 @@ pub enum Judged {
     Bad(usize),
 }
 
-// What the line at `at` does, and where it ends.
+// What the line at `at` does, and where it ends. The LF is searched for from the line's start on, as by one who looks for lines alone.
 fn line_turn(content: &[u8], at: usize, phase: usize) -> Turned
     requires { ⌜ (at < length (now content)) × (phase ≡ 4 → ⊥) × (phase ≡ 5 → ⊥) ⌝ }
     ensures { λ r. ⌜ LineTurn (now (content .entry)) at phase r ⌝ }
 {
+    if is_parent_front(&content[at..], phase) {
+        return Turned {
+            turn: phase,
+            end: at + phase + 8,
+        };
+    }
     let name = name_end(content, at);
     if name == content.len() {
         return Turned {
@@ -57,7 +64,7 @@ fn line_turn(content: &[u8], at: usize, phase: usize) -> Turned
             end: name + 1,
         };
     }
-    let end = find_lf(content, name + 1);
+    let end = find_lf(content, at);
     if end == content.len() {
         return Turned { turn: FAULT, end };
     }
