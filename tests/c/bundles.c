@@ -65,7 +65,9 @@ static void bundles_limit(void) {
     EXPECT(sluicepod_write_bundle(input, len, RANGES(0, len), OUT, RESULT), SLUICEPOD_TOO_LONG, "", 0);
     EXPECT(sluicepod_write_bundle(input, len, RANGES(12, len), OUT, RESULT), SLUICEPOD_NO_ROOM, "", 1, len);
     EXPECT(sluicepod_bundle_count(input, len + 1, RESULT), SLUICEPOD_TOO_LONG, "", 0);
+    EXPECT(sluicepod_bundle_count(input, len, RESULT), SLUICEPOD_NOT_A_BUNDLE, "", 0);
     EXPECT(sluicepod_bundle_message(input, len + 1, 0, RESULT), SLUICEPOD_TOO_LONG, "", 0);
+    EXPECT(sluicepod_bundle_message(input, len, 0, RESULT), SLUICEPOD_NOT_A_BUNDLE, "", 0);
     EXPECT(sluicepod_bundle_report(input, len + 1, RESULT), SLUICEPOD_TOO_LONG, "", 0);
     EXPECT(sluicepod_bundle_report(input, len, RESULT), SLUICEPOD_NOT_A_BUNDLE, "", 0);
     free(input);

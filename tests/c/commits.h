@@ -19,6 +19,7 @@ static void commits(void) {
     /* 1 before 13; a result that is too short before both */
     static uint8_t much[SLUICEPOD_LIMIT + 1];
     EXPECT(sluicepod_header_line(much, sizeof much, 0, RESULT), SLUICEPOD_TOO_LONG, "", 0);
+    EXPECT(sluicepod_header_line(much, sizeof much - 1, 0, RESULT), SLUICEPOD_BAD_HEADER, "", 1, 0);
     EXPECT(sluicepod_commit_message(much, sizeof much, RESULT), SLUICEPOD_TOO_LONG, "", 0);
     EXPECT(sluicepod_commit_message(much, sizeof much - 1, RESULT), SLUICEPOD_BAD_HEADER, "", 1, 0);
     EXPECT_NOTHING_WRITTEN(sluicepod_header_line(BYTES(""), 0, result, SLUICEPOD_RESULT_LEN - 1), SLUICEPOD_SHORT_RESULT);
