@@ -2,20 +2,20 @@
 -- the message uncut": whatever a call answers, or leaves in what it is lent. Assumes nothing.
 use mathlib.Core.Bool.{Bool, true, false}
 use mathlib.Core.List.{List, [], _∷_}
-use mathlib.Core.Path.{_≡_, refl, sym, _∙_}
+use mathlib.Core.Path.{_≡_, refl, sym, ap, _∙_}
 use Prim.Native.Nat.{ℕ, zero, suc, _≤_}
 use native.Mathlib.Omega.{arith}
 use borrow.Author.Tests.{le-ltb, ltb-false}
 use lib.ListN.{length, take}
-use lib.Seq.{take-all}
+use lib.Seq.{length-take-le, take-all}
 use Rattle.rules.specs.Answers.{Said, says, limit, overLimit}
 use Rattle.rules.specs.Lists.{if_then_else_}
 use Rattle.rules.proofs.Answers.{Decides, decides}
-use Rattle.divider.specs.Divider.{cut}
+use Rattle.divider.specs.Divider.{Cut, cut}
 use Rattle.divider.specs.Readings.{inEither, endFoundSays, read}
 use Rattle.divider.specs.declared.EndFound.{EndFound}
 use Rattle.divider.specs.declared.Reading.{Reading}
-use Rattle.divider.proofs.Cut.{cut-taken, cut-within}
+use Rattle.divider.proofs.Cut.{cut-only, cut-taken, cut-within}
 
 -- a message so read is within the limit where the uncut one is
 pub read-within : (reading : Reading) (message : List ℕ) → length (read reading message) ≤ length message
@@ -29,6 +29,17 @@ read-short reading message e = le-ltb limit (length (read reading message)) (ome
 pub read-taken : (reading : Reading) (message : List ℕ) → take (length (read reading message)) message ≡ read reading message
 read-taken Reading.Whole message = take-all (length message) message (omega arith)
 read-taken Reading.AboveDivider message = cut-taken message
+
+-- so `&message[..end]` is the message as it is read, `end` bytes long
+pub handed-on : (reading : Reading) (message : List ℕ) {end : ℕ} → end ≡ length (read reading message)
+    → (take end message ≡ read reading message) × (end ≡ length (take end message))
+handed-on reading message {end} e =
+    (rw e (read-taken reading message), sym (length-take-le end message (rw e (read-within reading message))))
+
+-- and what a call answers of it, behind refusal 1, is the answer in that reading
+pub answered-in : {A : Type 0} (refusal : A) (rule : List ℕ → A) (reading : Reading) (message : List ℕ) {end : ℕ} → end ≡ length (read reading message)
+    → length message ≤ limit → rule (take end message) ≡ inEither refusal reading rule message
+answered-in refusal rule reading message e short = rw (le-ltb limit (length message) short) (ap rule (handed-on reading message e .0))
 
 module _ {A : Type 0} (refusal : A) (rule : List ℕ → A) (message : List ℕ) where
   -- refusal 1 judges the message uncut, in both readings
@@ -50,6 +61,13 @@ module _ {A : Type 0} (refusal : A) (rule : List ℕ → A) (message : List ℕ)
       by : (b : Bool) → overLimit message ≡ b → (if b then refusal else rule message) ≡ rule message
       by true e = sym (refuses e)
       by false e = refl
+
+-- nothing of the patch is read: below the divider two messages may differ
+pub patch-unread : {A : Type 0} (refusal : A) (rule : List ℕ → A) {one two kept : List ℕ} → Cut one kept → Cut two kept
+    → overLimit one ≡ false → overLimit two ≡ false
+    → inEither refusal Reading.AboveDivider rule one ≡ inEither refusal Reading.AboveDivider rule two
+patch-unread refusal rule {one} {two} c d e f =
+    second-of-cut refusal rule one e ∙ ap rule (sym (cut-only c) ∙ cut-only d) ∙ sym (second-of-cut refusal rule two f)
 
 -- ---- an answer of `message_end` is told by its number and its values
 
