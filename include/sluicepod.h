@@ -18,14 +18,16 @@
  *                              one is possible is the one value
  *     SLUICEPOD_NOT_A_MAILBOX  the value is no mailbox; the place where none goes on is the one value
  *     SLUICEPOD_NINTH_COMMENT  the same, where a comment is opened inside eight others
+ *     SLUICEPOD_NO_READING     `reading` is no enum sluicepod_reading
  *     SLUICEPOD_NO_KIND        `kind` is no enum sluicepod_kind
  *     SLUICEPOD_SHORT_RESULT   `result` has fewer than SLUICEPOD_RESULT_LEN entries
- * Where several hold, the code is the first of SHORT_RESULT, NO_KIND, TOO_LONG, BAD_PLACE, NO_ROOM, BAD_HEADER,
+ * Where several hold, the code is the first of SHORT_RESULT, NO_READING, NO_KIND, TOO_LONG, BAD_PLACE, NO_ROOM, BAD_HEADER,
  * NOT_A_MAILBOX; the calls on bundles have an order of their own, below.
  *
  * Result. The values of an answer are written to the front of `result`: result[0] says how many there are, and
  * result[1], result[2], .. are the values, in the order that each call gives below. Entries behind them are kept.
- * The refusals TOO_LONG, BAD_PLACE, NOT_A_BUNDLE and NO_KIND have no values (result[0] is 0), the others have one.
+ * The refusals TOO_LONG, BAD_PLACE, NOT_A_BUNDLE, NO_READING and NO_KIND have no values (result[0] is 0), the others have
+ * one.
  * SHORT_RESULT alone writes nothing, neither to `result` nor to `out`. Every call asks for the same SLUICEPOD_RESULT_LEN
  * entries.
  *
@@ -61,6 +63,7 @@ enum sluicepod_code {
     SLUICEPOD_BAD_HEADER = 13,
     SLUICEPOD_NOT_A_MAILBOX = 14,
     SLUICEPOD_NINTH_COMMENT = 15,
+    SLUICEPOD_NO_READING = 253,
     SLUICEPOD_NO_KIND = 254,
     SLUICEPOD_SHORT_RESULT = 255
 };
@@ -181,6 +184,32 @@ uint32_t sluicepod_bundle_message(const uint8_t *bundle, size_t bundle_len, size
  * Assisted-by, Acked-by, Reviewed-by and Tested-by, ASCII case aside, and with all other tokens; and how many messages
  * have no trailers (eight). */
 uint32_t sluicepod_bundle_report(const uint8_t *bundle, size_t bundle_len, size_t *result, size_t result_len);
+
+/* ---- Messages with a patch below
+ *
+ * A divider is a line whose text is `---` or starts with `--- `; a tab behind the hyphens makes none. In the second
+ * reading a message ends before its first divider. The calls above that read a whole message have the first reading;
+ * these are asked for either. TOO_LONG judges the message uncut in both. */
+
+/* How a message is read. */
+enum sluicepod_reading {
+    SLUICEPOD_WHOLE = 0,        /* all of it */
+    SLUICEPOD_ABOVE_DIVIDER = 1 /* up to its first divider, if it has one */
+};
+
+/* Where a message ends. Whoever walks on by sluicepod_next_trailer hands it the message up to there, with the position of
+ * sluicepod_message_trailers_in: the steps read all that they are given. Values: the end; the message's length where it
+ * has no divider, or is read whole. */
+uint32_t sluicepod_message_end(const uint8_t *message, size_t message_len, uint32_t reading, size_t *result,
+                               size_t result_len);
+
+/* Each of these answers as the call without `_in` does of the message up to that end. */
+uint32_t sluicepod_title_and_body_in(const uint8_t *message, size_t message_len, uint32_t reading, size_t *result,
+                                     size_t result_len);
+uint32_t sluicepod_message_summary_in(const uint8_t *message, size_t message_len, uint32_t reading, uint8_t *out,
+                                      size_t out_len, size_t *result, size_t result_len);
+uint32_t sluicepod_message_trailers_in(const uint8_t *message, size_t message_len, uint32_t reading, size_t *result,
+                                       size_t result_len);
 
 #ifdef __cplusplus
 }

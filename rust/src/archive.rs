@@ -8,7 +8,7 @@
 
 use std::ops::Range;
 
-use crate::{Ending, Refusal, Report};
+use crate::{Ending, Reading, Refusal, Report};
 
 /// Which tokens are meant, by the header's numbers.
 #[derive(Clone, Copy)]
@@ -238,6 +238,17 @@ pub fn bundle_report(bundle: &[u8]) -> Result<Report, Refusal> {
     })
 }
 
+/// Where a message ends in a reading.
+pub fn message_end(message: &[u8], reading: Reading) -> Result<usize, Refusal> {
+    let number = match reading {
+        Reading::Whole => 0,
+        Reading::AboveDivider => 1,
+    };
+    let [_, end, ..] =
+        ask(|result, len| unsafe { sluicepod_message_end(message.as_ptr(), message.len(), number, result, len) })?;
+    Ok(end)
+}
+
 /// How many entries the calls ask of `result`: the first says how many values there are, and they follow it.
 const RESULT_LEN: usize = 16;
 
@@ -253,7 +264,7 @@ fn ask(call: impl FnOnce(*mut usize, usize) -> u32) -> Result<[usize; RESULT_LEN
         13 => Err(Refusal::BadHeader { line: result[1] }),
         14 => Err(Refusal::NotAMailbox { at: result[1] }),
         15 => Err(Refusal::NinthComment { at: result[1] }),
-        // The two others are for a number that is no `Kind` and for fewer entries than RESULT_LEN.
+        // The others are for a number that is no `Kind` or no `Reading`, and for fewer entries than RESULT_LEN.
         code => unreachable!("the archive's code {}", code),
     }
 }
@@ -361,4 +372,11 @@ extern "C" {
         result_len: usize,
     ) -> u32;
     fn sluicepod_bundle_report(bundle: *const u8, bundle_len: usize, result: *mut usize, result_len: usize) -> u32;
+    fn sluicepod_message_end(
+        message: *const u8,
+        message_len: usize,
+        reading: u32,
+        result: *mut usize,
+        result_len: usize,
+    ) -> u32;
 }

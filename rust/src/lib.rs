@@ -9,6 +9,7 @@
 //! - `CommitRef::message_summary()` and `CommitRef::message_trailers()` are functions that take the commit's message.
 //! - [`BodyRef::find`] and [`BodyRef::trailer_start`] are added; so are how lines end ([`BodyRef::ending`] and the field
 //!   [`TrailerRef::ending`]), [`CommitObject`], [`mailbox`], which tells who signed, and bundles: [`write_bundle`], [`Bundle`].
+//! - [`above_divider`] cuts a message above a patch, for any other call: the second [`Reading`].
 //!
 //! A value that is a part of the input is borrowed, and one that had to be written is owned. No input makes a call panic.
 //!
@@ -31,6 +32,7 @@ mod commit;
 mod ending;
 mod mailbox;
 mod message;
+mod reading;
 mod refusal;
 mod value;
 
@@ -40,6 +42,7 @@ pub use commit::{CommitObject, HeaderLine};
 pub use ending::Ending;
 pub use mailbox::{mailbox, Mailbox};
 pub use message::{message_summary, message_trailers, MessageRef};
+pub use reading::{above_divider, message_end, Reading};
 pub use refusal::Refusal;
 
 /// The longest message or body that is read, in bytes; a longer one is refused.

@@ -1,5 +1,5 @@
 /* The calls of include/sluicepod.h, through the archive: document 01's cases by their numbers, line ends, a walk, the
- * refusals, and commit objects.
+ * refusals, commit objects, and both readings of a message.
  * Each check gives a call, the code that it must return, what it must write to the front of `out`, and what to the front
  * of `result`: how many values there are, and the values. All behind that must be as it was. */
 #include <stdio.h>
@@ -257,6 +257,7 @@ static void short_results(void) {
 #include "commits.h"
 #include "mailbox.c"
 #include "bundles.c"
+#include "readings.c"
 
 int main(void) {
     titles_and_summaries();
@@ -271,6 +272,7 @@ int main(void) {
     commits();
     mailboxes();
     bundles();
+    readings();
     printf("tests/c: %d checks, %d failed\n", checks, failures);
     return failures != 0;
 }

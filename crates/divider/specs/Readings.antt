@@ -31,5 +31,8 @@ abbrev pub endFoundSays : EndFound → Said
 endFoundSays (EndFound.At end) = says 0 (end ∷ [])
 endFoundSays EndFound.TooLong = says 1 []
 
+abbrev pub endSays : List ℕ → Said
+endSays message = says 0 (length message ∷ [])
+
 abbrev pub endAnswer : Reading → List ℕ → Said
-endAnswer reading message = inReading reading (λ (s : List ℕ). says 0 (length s ∷ [])) message
+endAnswer reading message = inReading reading endSays message

@@ -1,2 +1,3 @@
--- The calls that take a kind.
+-- The calls that take a kind, and those that take a reading.
 pub mod ByKind
+pub mod ByReading

@@ -2,6 +2,7 @@
 // call of crates/body or crates/message, or of what its module names, and puts the numbers of its answer into `result`.
 pub mod bundles;
 pub mod commits;
+pub mod readings;
 pub mod who;
 
 ghost use mathlib.Core.Path.{_≡_};
