@@ -1,5 +1,5 @@
-// The reading of one message, printed: title, body, each line of the last paragraph with its kind, what is counted, the
-// block start and the blocks, and who signed. Places are counted in the body.
+// The reading of one message, printed: where a divider stands, title, body, each line of the last paragraph with its kind, what is
+// counted, the block start and the blocks, and who signed. Places below the body's are counted in it.
 ghost use mathlib.Core.Path.{_≡_};
 ghost use Prim.Native.Nat.{_*_, _^_, _<_, _≤_};
 ghost use lib.ListN.{length};
@@ -7,6 +7,7 @@ ghost use Rattle.explaining.specs.Kinds.{forgives, kindOf, kindOfIndente
 ghost use Rattle.explaining.specs.Verdicts.{verdictOf};
 use block::NextBlock;
 use block::next_block_from;
+use dividing::print_divider;
 use libc::STDOUT_FILENO;
 use paragraph::accepts_as_trailer_block;
 use paragraph::is_recognized_prefix;
@@ -97,6 +98,7 @@ fn is_forgiving(kind: LineKind) -> bool
 fn print_reading(message: &[u8])
     requires { ⌜ length (now message) ≤ 32768 ⌝ }
 {
+    print_divider(message);
     let places = title_and_body(message);
     let body_start = places.body_start;
     print_title_and_body(places.title_end, body_start, message.len());

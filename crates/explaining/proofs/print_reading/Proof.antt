@@ -6,6 +6,9 @@ use Rattle.rules.proofs.Title.{body-fits}
 use Rattle.explaining.proofs.print_reading.Statement.{statement}
 use Rattle.explaining.proofs.print_reading.Tie as tie
 
+print-divider-requires : tie.Need-print-divider-requires
+print-divider-requires c κs = search needs
+
 title-and-body-requires : tie.Need-title-and-body-requires
 title-and-body-requires c κs = search needs
 
@@ -14,8 +17,8 @@ print-title-and-body-requires c κs = search needs
 
 -- the body starts in the message
 starts : (c : tie.After-print-title-and-body) → let b = c .before in
-    b .title-and-body .result .«body_start» ≤ length (b .before .before .args .message .now)
-starts c = let b = c .before in rw (b .title-and-body .ensures .1) (body-fits (b .before .before .args .message .now))
+    b .title-and-body .result .«body_start» ≤ length (b .before .before .before .args .message .now)
+starts c = let b = c .before in rw (b .title-and-body .ensures .1) (body-fits (b .before .before .before .args .message .now))
 
 sub-print-body : tie.Need-sub-print-body
 sub-print-body c = starts c
@@ -39,6 +42,7 @@ pub print-reading-spec : {M : Type 1} → statement M
 print-reading-spec =
     tie.close
     (tie.spec
+    print-divider-requires
     title-and-body-requires
     print-title-and-body-requires
     sub-print-body
