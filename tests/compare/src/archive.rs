@@ -12,6 +12,7 @@ pub const TOO_LONG: u32 = 1;
 pub const BAD_PLACE: u32 = 2;
 pub const NO_ROOM: u32 = 3;
 pub const BAD_HEADER: u32 = 13;
+pub const NO_READING: u32 = 253;
 pub const NO_KIND: u32 = 254;
 pub const SHORT_RESULT: u32 = 255;
 
@@ -25,6 +26,10 @@ pub const REVIEWED_BY: u32 = 5;
 pub const TESTED_BY: u32 = 6;
 pub const ATTRIBUTION: u32 = 7;
 pub const AUTHOR: u32 = 8;
+
+/// The readings of a message.
+pub const WHOLE: u32 = 0;
+pub const ABOVE_DIVIDER: u32 = 1;
 
 /// The endings of lines.
 pub const LF: usize = 0;
@@ -105,6 +110,36 @@ mod declared {
         pub fn sluicepod_bundle_report(
             bundle: *const u8,
             bundle_len: usize,
+            result: *mut usize,
+            result_len: usize,
+        ) -> u32;
+        pub fn sluicepod_message_end(
+            message: *const u8,
+            message_len: usize,
+            reading: u32,
+            result: *mut usize,
+            result_len: usize,
+        ) -> u32;
+        pub fn sluicepod_title_and_body_in(
+            message: *const u8,
+            message_len: usize,
+            reading: u32,
+            result: *mut usize,
+            result_len: usize,
+        ) -> u32;
+        pub fn sluicepod_message_summary_in(
+            message: *const u8,
+            message_len: usize,
+            reading: u32,
+            out: *mut u8,
+            out_len: usize,
+            result: *mut usize,
+            result_len: usize,
+        ) -> u32;
+        pub fn sluicepod_message_trailers_in(
+            message: *const u8,
+            message_len: usize,
+            reading: u32,
             result: *mut usize,
             result_len: usize,
         ) -> u32;
@@ -257,4 +292,54 @@ pub fn write_bundle(input: &[u8], ranges: &[usize], out: &mut [u8], result: &mut
 
 pub fn bundle_report(bundle: &[u8], result: &mut [usize]) -> u32 {
     unsafe { declared::sluicepod_bundle_report(bundle.as_ptr(), bundle.len(), result.as_mut_ptr(), result.len()) }
+}
+
+pub fn message_end(message: &[u8], reading: u32, result: &mut [usize]) -> u32 {
+    unsafe {
+        declared::sluicepod_message_end(
+            message.as_ptr(),
+            message.len(),
+            reading,
+            result.as_mut_ptr(),
+            result.len(),
+        )
+    }
+}
+
+pub fn title_and_body_in(message: &[u8], reading: u32, result: &mut [usize]) -> u32 {
+    unsafe {
+        declared::sluicepod_title_and_body_in(
+            message.as_ptr(),
+            message.len(),
+            reading,
+            result.as_mut_ptr(),
+            result.len(),
+        )
+    }
+}
+
+pub fn message_summary_in(message: &[u8], reading: u32, out: &mut [u8], result: &mut [usize]) -> u32 {
+    unsafe {
+        declared::sluicepod_message_summary_in(
+            message.as_ptr(),
+            message.len(),
+            reading,
+            out.as_mut_ptr(),
+            out.len(),
+            result.as_mut_ptr(),
+            result.len(),
+        )
+    }
+}
+
+pub fn message_trailers_in(message: &[u8], reading: u32, result: &mut [usize]) -> u32 {
+    unsafe {
+        declared::sluicepod_message_trailers_in(
+            message.as_ptr(),
+            message.len(),
+            reading,
+            result.as_mut_ptr(),
+            result.len(),
+        )
+    }
 }

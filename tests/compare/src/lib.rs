@@ -8,7 +8,8 @@
 //! let outcome = search::compare(&plan, original::answer, ours::answer);
 //! ```
 //!
-//! ends at the first input on which the two disagree and makes it small; `answers::difference` names the field.
+//! ends at the first input on which the two disagree and makes it small; `answers::difference` names the field. `readings` does
+//! the same for the second reading, whose cut `divider` reads by itself.
 
 pub mod answers;
 #[cfg(feature = "archive")]
@@ -16,10 +17,13 @@ pub mod archive;
 pub mod buffers;
 #[cfg(feature = "archive")]
 pub mod commits;
+pub mod divider;
 pub mod git;
 pub mod inputs;
 pub mod original;
 #[cfg(feature = "archive")]
 pub mod ours;
+#[cfg(feature = "archive")]
+pub mod readings;
 pub mod rng;
 pub mod search;

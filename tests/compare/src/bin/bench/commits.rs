@@ -97,7 +97,7 @@ fn filled(front: &[u8], unit: &[u8], end: &[u8]) -> Vec<u8> {
 
 /// Where the message starts, by the archive's search for the title's end, which goes from LF to LF.
 #[inline(never)]
-fn lfs(content: &[u8]) -> u64 {
+pub fn lfs(content: &[u8]) -> u64 {
     let mut result = [0; archive::RESULT_LEN];
     archive::title_and_body(content, &mut result);
     if result[0] == 2 {

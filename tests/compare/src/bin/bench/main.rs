@@ -3,6 +3,8 @@
 //!     bench              a line for each call on each shape: nanoseconds of both, and how many times faster the port is
 //!     bench --markdown   these ratios in tables, a row for each shape, and one for the headers of commit objects
 //!     bench commits      the headers of commit objects alone
+//!     bench divider      the end of a message above its divider alone; fails where it takes more than twice as long as a search
+//!                        for the message's LFs
 //!
 //! The mailbox call, which the original does not have, is timed by itself, on a mebibyte and on half of it.
 //!
@@ -11,6 +13,7 @@
 
 mod calls;
 mod commits;
+mod divider;
 #[cfg(feature = "libgit2")]
 mod libgit2;
 mod mailbox;
@@ -37,6 +40,7 @@ fn main() -> ExitCode {
         [] => plain,
         ["--markdown"] => markdown,
         ["commits"] => |_: &[Shape]| commit_table(),
+        ["divider"] => return divider_table(),
         _ => {
             eprintln!("bench: no such option");
             return ExitCode::FAILURE;
@@ -77,6 +81,10 @@ fn plain(shapes: &[Shape]) {
             whole / half
         );
     }
+    for (name, [own, memchr]) in divider::rows() {
+        line("message end, beside a search", name, &own);
+        line("message end, beside memchr", name, &memchr);
+    }
     let (name, Row { call, race }) = night::report();
     line(call, &name, &race);
 }
@@ -100,6 +108,7 @@ fn markdown(shapes: &[Shape]) {
     println!("\n| shape | {call} |\n|---|---:|\n| {name} | {:.2} |", race.ratio);
     println!("\n`*` the port needs less than {CALL_NS} ns: this is what a call costs, and hardly anything is read.");
     commit_table();
+    divider_table();
 }
 
 /// Headers of commit objects: how many times as long as a search for their LFs each call takes.
@@ -111,6 +120,18 @@ fn commit_table() {
         let cells: Vec<String> = rows.iter().map(|row| format!("{:.2}", 1.0 / row.race.ratio)).collect();
         println!("| {} | {} |", rows[0].header, cells.join(" | "));
     }
+}
+
+/// Messages without a divider: how many times as long as a search for their LFs finding their end takes.
+fn divider_table() -> ExitCode {
+    println!("\n| 1 MiB without a divider | message end | message end, beside memchr |\n|---|---:|---:|");
+    let mut slow = false;
+    for (name, races) in divider::rows() {
+        let [own, memchr] = races.map(|race| 1.0 / race.ratio);
+        slow |= own > 2.0;
+        println!("| {name} | {own:.2} | {memchr:.2} |");
+    }
+    ExitCode::from(u8::from(slow))
 }
 
 /// Below this time the cost of the call outweighs what it reads.

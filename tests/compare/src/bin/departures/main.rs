@@ -1,6 +1,7 @@
 //! Where the original, Git and Git's manual part ways.
 //!
-//!     departures            runs the original and Git on every row of the table; fails if either answers otherwise
+//!     departures            runs the original and Git on every row of the table, those of the divider in both readings; fails if
+//!                           either answers otherwise
 //!     departures smallest   looks in each row's space for a message with fewer pieces on which the two part
 //!     departures classes [messages] [seed]   random messages: nothing parts the two but the classes of the table
 
@@ -12,6 +13,7 @@ use std::{env, io, process::ExitCode, time::Duration};
 
 use compare::{
     answers::Trailer,
+    divider,
     git::{printed, Git},
     original,
 };
@@ -61,6 +63,7 @@ fn with_git(run: impl FnOnce(&Git) -> io::Result<usize>) -> io::Result<usize> {
 fn rows_and_claims() -> io::Result<usize> {
     let failures = CLAIMS.iter().filter(|claim| !holds(claim)).count()
         + ROWS.iter().filter(|row| !original_agrees(row)).count()
+        + ROWS.iter().filter(|row| !second_agrees(row)).count()
         + with_git(|git| {
             let mut failures = 0;
             for row in ROWS {
@@ -70,8 +73,9 @@ fn rows_and_claims() -> io::Result<usize> {
             Ok(failures)
         })?;
     println!(
-        "departures: the original on {} rows and {} claims; {failures} not as in the table",
+        "departures: the original on {} rows, {} of them in both readings, and {} claims; {failures} not as in the table",
         ROWS.len(),
+        ROWS.iter().filter(|row| row.second.is_some()).count(),
         CLAIMS.len()
     );
     Ok(failures)
@@ -99,6 +103,15 @@ fn original_agrees(row: &Row) -> bool {
     messages(row).iter().all(|message| {
         let seen = original_prints(message, row.read_as);
         agrees("the original", row, message, Some(&seen), Some(row.original))
+    })
+}
+
+/// The second reading: the original on the message above its first divider.
+fn second_agrees(row: &Row) -> bool {
+    let Some(second) = row.second else { return true };
+    messages(row).iter().all(|message| {
+        let seen = original_prints(divider::above(message), row.read_as);
+        agrees("the second reading", row, message, Some(&seen), Some(second))
     })
 }
 

@@ -2,11 +2,11 @@
 
 use std::io;
 
-use compare::{git::Git, original};
+use compare::{divider, git::Git, original};
 
 use crate::{
     original_prints,
-    table::{Row, Space, ROWS},
+    table::{Row, Space, ROWS, SECOND},
 };
 
 /// For each row with a space: all its messages with fewer pieces are answered alike, and the row's own, one of the
@@ -23,7 +23,8 @@ pub fn all(git: &Git) -> io::Result<usize> {
             );
             continue;
         }
-        let (pieces, parted, tried) = first_level(git, row, space)?;
+        let ours = |message: &[u8]| original_prints(message, row.read_as);
+        let (pieces, parted, tried) = first_level(git, row, space, ours)?;
         let known = parted.iter().any(|message| message == row.message);
         if !known {
             failures += 1;
@@ -36,8 +37,28 @@ pub fn all(git: &Git) -> io::Result<usize> {
             shown(&parted)
         );
     }
+    for (what, space) in SECOND {
+        failures += second_reading(git, what, space)?;
+    }
     failures += summaries();
     Ok(failures)
+}
+
+/// The same for a row on which the second reading and Git part.
+fn second_reading(git: &Git, what: &str, space: &Space) -> io::Result<usize> {
+    let row = ROWS
+        .iter()
+        .find(|row| row.what == what && row.second.is_some() && row.second != row.git)
+        .unwrap_or_else(|| panic!("no row on which the second reading and Git part: {what}"));
+    let ours = |message: &[u8]| original_prints(divider::above(message), row.read_as);
+    let (pieces, parted, tried) = first_level(git, row, space, ours)?;
+    let known = parted.iter().any(|message| message == row.message);
+    println!(
+        "{} second reading, {what}: {tried} messages, first parted at {pieces} pieces: {}",
+        if known { "ok" } else { "NOT SMALLEST" },
+        shown(&parted)
+    );
+    Ok(usize::from(!known))
 }
 
 fn shown(messages: &[Vec<u8>]) -> String {
@@ -51,7 +72,12 @@ fn shown(messages: &[Vec<u8>]) -> String {
 }
 
 /// The messages with the fewest pieces on which the two part, that number, and how many messages were tried.
-fn first_level(git: &Git, row: &Row, space: &Space) -> io::Result<(usize, Vec<Vec<u8>>, usize)> {
+fn first_level(
+    git: &Git,
+    row: &Row,
+    space: &Space,
+    reads: impl Fn(&[u8]) -> Vec<u8>,
+) -> io::Result<(usize, Vec<Vec<u8>>, usize)> {
     let mut level = vec![space.front.to_vec()];
     let mut tried = 0;
     for pieces in 1.. {
@@ -59,7 +85,7 @@ fn first_level(git: &Git, row: &Row, space: &Space) -> io::Result<(usize, Vec<Ve
         tried += level.len();
         let mut parted = Vec::new();
         for (message, answer) in level.iter().zip(git.parse_all(&level, row.settings)?) {
-            let ours = original_prints(message, row.read_as);
+            let ours = reads(message);
             if seen(space, &ours) != seen(space, &answer) && counts(git, row, space, message, &answer)? {
                 parted.push(message.clone());
             }

@@ -10,6 +10,9 @@ pub struct Row {
     pub settings: &'static [&'static str],
     /// The trailers as Git prints them: `token: value`, each on a line.
     pub original: &'static [u8],
+    /// The same in the second reading, where the two readings are set beside Git: the original on the message above its first
+    /// divider.
+    pub second: Option<&'static [u8]>,
     /// The same of Git; none where Git does not end.
     pub git: Option<&'static [u8]>,
     /// The messages among which this one is a smallest on which the two part.
@@ -40,12 +43,16 @@ const fn below_an_empty_title(pieces: &'static [&'static [u8]]) -> Option<Space>
 }
 
 const fn among(front: &'static [u8], pieces: &'static [&'static [u8]]) -> Option<Space> {
-    Some(Space {
+    Some(space(front, pieces))
+}
+
+const fn space(front: &'static [u8], pieces: &'static [&'static [u8]]) -> Space {
+    Space {
         front,
         pieces,
         tokens_only: false,
         unlike: None,
-    })
+    }
 }
 
 /// A row without settings whose message is read as a message.
@@ -64,45 +71,76 @@ const fn row(
         read_as: ReadAs::Message,
         settings: &[],
         original,
+        second: None,
         git: Some(git),
         among,
     }
 }
 
+/// A row of the divider, which the second reading reads.
+const fn divided(
+    what: &'static str,
+    message: &'static [u8],
+    original: &'static [u8],
+    second: &'static [u8],
+    git: &'static [u8],
+    among: Option<Space>,
+) -> Row {
+    Row {
+        second: Some(second),
+        ..row("1", what, message, original, git, among)
+    }
+}
+
 pub const ROWS: &[Row] = &[
-    row(
-        "1",
+    divided(
         "a divider below the foot",
         b"\n\nA:\n---\n",
         b"",
         b"A: \n",
+        b"A: \n",
         below_an_empty_title(&[b"A:", b"---", b"\n", b" "]),
     ),
-    row(
-        "1",
+    divided(
         "a divider above the foot",
         b"---\n\nA:",
         b"A: \n",
         b"",
+        b"",
         among(b"---", &[b"A:", b"\n", b" "]),
     ),
-    row(
-        "1",
-        "a tab behind the divider",
+    divided(
+        "a tab behind the hyphens",
         b"\n\nA:\n---\t",
+        b"",
         b"",
         b"A: \n",
         below_an_empty_title(&[b"A:", b"---", b"\n", b"\t"]),
     ),
-    row(
-        "1",
-        "a CR behind the divider",
+    divided(
+        "a CR behind the hyphens, at the end",
         b"\n\nA:\n---\r",
         b"",
         b"A: \n",
+        b"A: \n",
         below_an_empty_title(&[b"A:", b"---", b"\n", b"\r"]),
     ),
-    row("1", "a divider at the end of the input", b"\n\nA:\n---", b"", b"", None),
+    divided(
+        "a CR behind the hyphens, and more",
+        b"\n\nA:\n---\rx",
+        b"",
+        b"",
+        b"A: \n",
+        None,
+    ),
+    divided(
+        "a divider at the end of the input",
+        b"\n\nA:\n---",
+        b"",
+        b"A: \n",
+        b"",
+        None,
+    ),
     Row {
         settings: &["trailer.a.key=A"],
         ..row(
@@ -301,6 +339,22 @@ pub const ROWS: &[Row] = &[
             among(b"", &[b"A:", b"---", SCISSORS, b"\n", b" ", b"x"]),
         )
     },
+];
+
+/// Where the second reading and Git part, and in which space the row's message is a smallest one: the rows of class 1 that have it.
+pub const SECOND: &[(&str, Space)] = &[
+    (
+        "a tab behind the hyphens",
+        space(b"\n\n", &[b"A:", b"---\t", b"---\n", b"\n", b" "]),
+    ),
+    (
+        "a CR behind the hyphens, and more",
+        space(b"\n\n", &[b"A:", b"---\n", b"---\r", b"\n", b"x"]),
+    ),
+    (
+        "a divider at the end of the input",
+        space(b"\n\n", &[b"A:", b"---", b"\n", b" "]),
+    ),
 ];
 
 /// What the original answers of one input, without Git.
