@@ -1,0 +1,2 @@
+-- The worked examples of K10.
+pub mod Examples
