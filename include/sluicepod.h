@@ -13,6 +13,9 @@
  *     SLUICEPOD_TOO_LONG       an input is over the limit
  *     SLUICEPOD_BAD_PLACE      a position is past the input, or a range does not fit in it
  *     SLUICEPOD_NO_ROOM        `out` is shorter than what is to be written; the exact length needed is the one value
+ *     SLUICEPOD_MISSING        no closing note: no trailer has a field's name; the field is the one value
+ *     SLUICEPOD_REPEATED       no closing note: more than one trailer has a field's name; the field is the one value
+ *     SLUICEPOD_BAD_CONTENT    no closing note: a field's content is not a good one; the field is the one value
  *     SLUICEPOD_NOT_A_BUNDLE   bytes that are no bundle, or more than SLUICEPOD_BUNDLE_MOST messages to write
  *     SLUICEPOD_BAD_HEADER     a commit object's header is not good; the number of the first line after which no good
  *                              one is possible is the one value
@@ -59,6 +62,9 @@ enum sluicepod_code {
     SLUICEPOD_TOO_LONG = 1,
     SLUICEPOD_BAD_PLACE = 2,
     SLUICEPOD_NO_ROOM = 3,
+    SLUICEPOD_MISSING = 9,
+    SLUICEPOD_REPEATED = 10,
+    SLUICEPOD_BAD_CONTENT = 11,
     SLUICEPOD_NOT_A_BUNDLE = 12,
     SLUICEPOD_BAD_HEADER = 13,
     SLUICEPOD_NOT_A_MAILBOX = 14,
@@ -210,6 +216,31 @@ uint32_t sluicepod_message_summary_in(const uint8_t *message, size_t message_len
                                       size_t out_len, size_t *result, size_t result_len);
 uint32_t sluicepod_message_trailers_in(const uint8_t *message, size_t message_len, uint32_t reading, size_t *result,
                                        size_t result_len);
+
+/* ---- The closing note
+ *
+ * What the unit asks before it erases a bus's data. An entry is a closing note if its trailers hold exactly one Vehicle of
+ * 1 to 6 digits, one Records, a decimal from 0 to 1,000,000 without needless zeros, and one Offload-state, `complete` or
+ * `partial` in those bytes. Names are compared without regard to ASCII case; the fields may stand in any order, among
+ * other trailers; values are judged unfolded, and no buffer is lent. `reading` is as above. Of the refusals TOO_LONG,
+ * MISSING, REPEATED and BAD_CONTENT the first that holds is the code, in that order, with the first such field. */
+
+/* The fields. */
+enum sluicepod_field {
+    SLUICEPOD_VEHICLE = 0,      /* Vehicle */
+    SLUICEPOD_RECORDS = 1,      /* Records */
+    SLUICEPOD_OFFLOAD_STATE = 2 /* Offload-state */
+};
+
+/* The closing note. Values: the start and the end of the vehicle's digits in the message, the count, and 1 if the state is
+ * `complete` or 0 if it is `partial`. */
+uint32_t sluicepod_closing_note(const uint8_t *message, size_t message_len, uint32_t reading, size_t *result,
+                                size_t result_len);
+
+/* Whether the unit may erase, where `received` records were received. Values: 1, if the state is complete and the count is
+ * `received`, and 0 otherwise. Only SLUICEPOD_OK with 1 means yes. */
+uint32_t sluicepod_may_erase(const uint8_t *message, size_t message_len, uint32_t reading, size_t received,
+                             size_t *result, size_t result_len);
 
 #ifdef __cplusplus
 }

@@ -8,7 +8,7 @@
 
 use std::ops::Range;
 
-use crate::{Ending, Reading, Refusal, Report};
+use crate::{Ending, Field, Reading, Refusal, Report};
 
 /// Which tokens are meant, by the header's numbers.
 #[derive(Clone, Copy)]
@@ -240,13 +240,44 @@ pub fn bundle_report(bundle: &[u8]) -> Result<Report, Refusal> {
 
 /// Where a message ends in a reading.
 pub fn message_end(message: &[u8], reading: Reading) -> Result<usize, Refusal> {
-    let number = match reading {
-        Reading::Whole => 0,
-        Reading::AboveDivider => 1,
-    };
+    let number = reading_number(reading);
     let [_, end, ..] =
         ask(|result, len| unsafe { sluicepod_message_end(message.as_ptr(), message.len(), number, result, len) })?;
     Ok(end)
+}
+
+/// The closing note of an entry: where its vehicle stands, its count, and whether its state is complete.
+pub fn closing_note(message: &[u8], reading: Reading) -> Result<(Range<usize>, usize, bool), Refusal> {
+    let number = reading_number(reading);
+    let [_, start, end, records, complete, ..] =
+        ask(|result, len| unsafe { sluicepod_closing_note(message.as_ptr(), message.len(), number, result, len) })?;
+    Ok((start..end, records, complete == 1))
+}
+
+/// Whether the unit may erase.
+pub fn may_erase(message: &[u8], reading: Reading, received: usize) -> Result<bool, Refusal> {
+    let number = reading_number(reading);
+    let [_, yes, ..] = ask(|result, len| unsafe {
+        sluicepod_may_erase(message.as_ptr(), message.len(), number, received, result, len)
+    })?;
+    Ok(yes == 1)
+}
+
+/// A reading, by the header's number.
+fn reading_number(reading: Reading) -> u32 {
+    match reading {
+        Reading::Whole => 0,
+        Reading::AboveDivider => 1,
+    }
+}
+
+/// A field, by the header's number.
+fn field(number: usize) -> Field {
+    match number {
+        0 => Field::Vehicle,
+        1 => Field::Records,
+        _ => Field::OffloadState,
+    }
 }
 
 /// How many entries the calls ask of `result`: the first says how many values there are, and they follow it.
@@ -261,6 +292,9 @@ fn ask(call: impl FnOnce(*mut usize, usize) -> u32) -> Result<[usize; RESULT_LEN
         2 => Err(Refusal::BadPlace),
         3 => Err(Refusal::NoRoom { needed: result[1] }),
         12 => Err(Refusal::NotABundle),
+        9 => Err(Refusal::Missing(field(result[1]))),
+        10 => Err(Refusal::Repeated(field(result[1]))),
+        11 => Err(Refusal::BadContent(field(result[1]))),
         13 => Err(Refusal::BadHeader { line: result[1] }),
         14 => Err(Refusal::NotAMailbox { at: result[1] }),
         15 => Err(Refusal::NinthComment { at: result[1] }),
@@ -376,6 +410,21 @@ extern "C" {
         message: *const u8,
         message_len: usize,
         reading: u32,
+        result: *mut usize,
+        result_len: usize,
+    ) -> u32;
+    fn sluicepod_closing_note(
+        message: *const u8,
+        message_len: usize,
+        reading: u32,
+        result: *mut usize,
+        result_len: usize,
+    ) -> u32;
+    fn sluicepod_may_erase(
+        message: *const u8,
+        message_len: usize,
+        reading: u32,
+        received: usize,
         result: *mut usize,
         result_len: usize,
     ) -> u32;

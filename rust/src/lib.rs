@@ -10,6 +10,7 @@
 //! - [`BodyRef::find`] and [`BodyRef::trailer_start`] are added; so are how lines end ([`BodyRef::ending`] and the field
 //!   [`TrailerRef::ending`]), [`CommitObject`], [`mailbox`], which tells who signed, and bundles: [`write_bundle`], [`Bundle`].
 //! - [`above_divider`] cuts a message above a patch, for any other call: the second [`Reading`].
+//! - [`may_erase`] says whether a bus's data may be erased, and [`closing_note`] what the entry says of it.
 //!
 //! A value that is a part of the input is borrowed, and one that had to be written is owned. No input makes a call panic.
 //!
@@ -28,6 +29,7 @@
 mod archive;
 mod body;
 mod bundle;
+mod closing;
 mod commit;
 mod ending;
 mod mailbox;
@@ -38,6 +40,7 @@ mod value;
 
 pub use body::{BodyRef, MessageBlock, MessageBlocks, TrailerRef, Trailers};
 pub use bundle::{write_bundle, write_bundle_into, Bundle, Report};
+pub use closing::{closing_note, may_erase, ClosingNote, Field};
 pub use commit::{CommitObject, HeaderLine};
 pub use ending::Ending;
 pub use mailbox::{mailbox, Mailbox};

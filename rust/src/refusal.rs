@@ -1,6 +1,6 @@
 use std::fmt;
 
-use crate::{Bundle, LIMIT};
+use crate::{Bundle, Field, LIMIT};
 
 /// Why a call gave no answer.
 ///
@@ -17,6 +17,12 @@ pub enum Refusal {
         /// The length that is needed, in bytes; no shorter one will do.
         needed: usize,
     },
+    /// No closing note: no trailer has the field's name.
+    Missing(Field),
+    /// No closing note: more than one trailer has the field's name.
+    Repeated(Field),
+    /// No closing note: the field's content is not a good one.
+    BadContent(Field),
     /// Bytes that are no bundle, or more messages than one bundle holds.
     NotABundle,
     /// A commit object's header is not good.
@@ -44,6 +50,9 @@ impl Refusal {
             Refusal::TooLong => 1,
             Refusal::BadPlace => 2,
             Refusal::NoRoom { .. } => 3,
+            Refusal::Missing(_) => 9,
+            Refusal::Repeated(_) => 10,
+            Refusal::BadContent(_) => 11,
             Refusal::NotABundle => 12,
             Refusal::BadHeader { .. } => 13,
             Refusal::NotAMailbox { .. } => 14,
@@ -58,6 +67,9 @@ impl fmt::Display for Refusal {
             Refusal::TooLong => write!(f, "the input is longer than {} bytes", LIMIT),
             Refusal::BadPlace => write!(f, "the position or range is not in the input"),
             Refusal::NoRoom { needed } => write!(f, "the buffer is too short: {} bytes are needed", needed),
+            Refusal::Missing(field) => write!(f, "no closing note: {} is missing", field.name()),
+            Refusal::Repeated(field) => write!(f, "no closing note: {} is repeated", field.name()),
+            Refusal::BadContent(field) => write!(f, "no closing note: the content of {} is bad", field.name()),
             Refusal::NotABundle => write!(f, "not a bundle of at most {} messages", Bundle::MOST),
             Refusal::BadHeader { line } => write!(f, "the header is not a commit object's: line {} is at fault", line),
             Refusal::NotAMailbox { at } => write!(f, "no mailbox goes on at byte {}", at),

@@ -1,5 +1,5 @@
 /* The calls of include/sluicepod.h, through the archive: document 01's cases by their numbers, line ends, a walk, the
- * refusals, commit objects, and both readings of a message.
+ * refusals, commit objects, both readings of a message, and the closing note.
  * Each check gives a call, the code that it must return, what it must write to the front of `out`, and what to the front
  * of `result`: how many values there are, and the values. All behind that must be as it was. */
 #include <stdio.h>
@@ -258,6 +258,7 @@ static void short_results(void) {
 #include "mailbox.c"
 #include "bundles.c"
 #include "readings.c"
+#include "closing.c"
 
 int main(void) {
     titles_and_summaries();
@@ -273,6 +274,7 @@ int main(void) {
     mailboxes();
     bundles();
     readings();
+    closing();
     printf("tests/c: %d checks, %d failed\n", checks, failures);
     return failures != 0;
 }
