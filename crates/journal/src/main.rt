@@ -1,5 +1,5 @@
 // Lists the entries of the journal: for each file that an argument names, its name, what the lister prints of it, its reading,
-// and what the calls answer that neither shows.
+// what the calls answer that neither shows, and its closing note where 207 records were received.
 mod calls;
 
 use calls::print_calls;
@@ -42,4 +42,6 @@ fn ask_entry(name: &[u8]) {
     libc::close(fd);
     let mut buffer = io::large_buffer();
     print_calls(&space[..len], &mut buffer);
+    io::write_all(STDOUT_FILENO, b"= closing\n");
+    noting::print_closing(&space[..len], 207);
 }

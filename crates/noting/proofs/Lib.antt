@@ -1,0 +1,2 @@
+-- What carries the proof of `close`.
+pub mod Count
