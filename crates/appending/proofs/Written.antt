@@ -1,7 +1,7 @@
 -- What is written: `added` is the new message of a message with a non-blank line, and the only one (new-message,
 -- new-message-only). By lines it is the lines up to the last non-blank one, that one with its LF, the empty line unless there is
 -- a block, the new line (added-lines). Assumes nothing.
-use mathlib.Core.Bool.{Bool, true, false, not}
+use mathlib.Core.Bool.{Bool, true, false}
 use mathlib.Core.List.{List, [], _∷_, _++_, append-assoc, append-nil, nil≢cons}
 use mathlib.Core.Logic.{_⊎_, inl, inr}
 use mathlib.Core.Option.{Option}
@@ -12,7 +12,7 @@ use lib.Dec.{T, T-not, not-T, eqb, eqb→eq}
 use Rattle.rules.specs.Bytes.{LF, CR, colon, space, tokenByte}
 use Rattle.rules.specs.Lines.{Line, LineStart, LinesOf, none, last, line, inner, ending, endsWith, without, lines, text, blank}
 use Rattle.rules.specs.Lists.{if_then_else_, All, any, filled, join}
-use Rattle.rules.specs.Paragraph.{LastEnding, nowhere, lastEnding, orNone, endingBelow, solid}
+use Rattle.rules.specs.Paragraph.{LastEnding, nowhere, orNone, endingBelow, solid}
 use Rattle.rules.specs.Title.{LineEnd, lf, crlf}
 use Rattle.rules.specs.Trailer.{TrailerLine, trailerLine, tokenIn, gapIn, valueIn, unfolded}
 use Rattle.rules.specs.White.{trim}
@@ -32,11 +32,11 @@ pub none-solid : (bs : List Line) → All blank bs → any solid bs ≡ false
 none-solid [] a = refl
 none-solid (b ∷ bs) a = rw (is-true (blank b) (a .0)) (none-solid bs (a .1))
 
-some-solid : (us : List Line) (l : Line) (bs : List Line) → T (solid l) → T (any solid (us ++ l ∷ bs))
+pub some-solid : (us : List Line) (l : Line) (bs : List Line) → T (solid l) → T (any solid (us ++ l ∷ bs))
 some-solid [] l bs s = or-left (solid l) (any solid bs) s
 some-solid (u ∷ us) l bs s = or-right (solid u) (any solid (us ++ l ∷ bs)) (some-solid us l bs s)
 
-none-left : (bs : List Line) → All blank bs → upToLast bs ≡ []
+pub none-left : (bs : List Line) → All blank bs → upToLast bs ≡ []
 none-left [] a = refl
 none-left (b ∷ bs) a = rw (none-solid (b ∷ bs) a)
 
@@ -45,13 +45,13 @@ up-to [] l bs s b = rw (is-true (any solid (l ∷ bs)) (some-solid [] l bs s), n
 up-to (u ∷ us) l bs s b = rw (is-true (any solid (u ∷ (us ++ l ∷ bs))) (some-solid (u ∷ us) l bs s), up-to us l bs s b)
 
 module _ (message : List ℕ) (us : List Line) (l : Line) (bs : List Line) (read : lines message ≡ us ++ l ∷ bs) (s : T (solid l)) (b : All blank bs) where
-  kept-is : kept message ≡ join us ++ l
+  pub kept-is : kept message ≡ join us ++ l
   unfolding kept
   kept-is =
       ap (λ (ls : List Line). join (upToLast ls)) read ∙ ap join (up-to us l bs s b) ∙ join-append us (l ∷ [])
       ∙ ap (λ (x : List ℕ). join us ++ x) (append-nil l)
 
-  ending-is : endingBelow message ≡ ending l
+  pub ending-is : endingBelow message ≡ ending l
   unfolding endingBelow
   ending-is = ap orNone (sym (last-only (LastEnding.last us l bs read s b)))
 

@@ -1,7 +1,7 @@
 -- The message with one trailer more: document 02, K3. "From message, token and value, write a new message: blank lines at the end
 -- dropped, the last line given LF if it lacks one; an empty line too unless the body had an accepted block; then token, colon,
 -- space, value. Both new lines end with CR LF where the last non-blank line did in the message as given, else LF."
-use mathlib.Core.Bool.{Bool, false, not, _&&_}
+use mathlib.Core.Bool.{Bool, false, _&&_}
 use mathlib.Core.List.{List, [], _∷_, _++_}
 use mathlib.Core.Path.{_≡_}
 use Prim.Native.Nat.{ℕ, _+_}

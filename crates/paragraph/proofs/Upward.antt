@@ -57,7 +57,7 @@ module _ (body : List ℕ) (start end : ℕ) (s : start ≡ lineStart body end) 
   cut-above = rw s (lines-from (lineStart body end) body (line-start-starts body end h))
 
   module _ (z : 0 < end) where
-    last-part : lines (take end body) ≡ lines (take start body) ++ part body start end ∷ []
+    pub last-part : lines (take end body) ≡ lines (take start body) ++ part body start end ∷ []
     last-part =
         rw s (last-line body end z h ∙ ap (λ (l : Line). lines (take (lineStart body end) body) ++ l ∷ [])
         (part-is body (lineStart body end) end (start-le body (lineStart body end) end refl) h))

@@ -61,7 +61,7 @@ fn is_gap_byte(byte: u8) -> bool
 }
 
 // Where the token at the front ends.
-fn token_end(line: &[u8]) -> usize
+pub fn token_end(line: &[u8]) -> usize
     ensures { λ r. ⌜ r ≡ length (tokenIn (now (line .entry))) ⌝ }
 {
     let mut i = 0;
