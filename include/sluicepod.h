@@ -13,6 +13,10 @@
  *     SLUICEPOD_TOO_LONG       an input is over the limit
  *     SLUICEPOD_BAD_PLACE      a position is past the input, or a range does not fit in it
  *     SLUICEPOD_NO_ROOM        `out` is shorter than what is to be written; the exact length needed is the one value
+ *     SLUICEPOD_BAD_TOKEN      a token that is not letters, digits or hyphens, at least one
+ *     SLUICEPOD_BAD_VALUE      a value that has an LF, or white space at an end
+ *     SLUICEPOD_NOTHING_TO_STAND_ON
+ *                              a message without a non-blank line, below which a trailer could stand
  *     SLUICEPOD_MISSING        no closing note: no trailer has a field's name; the field is the one value
  *     SLUICEPOD_REPEATED       no closing note: more than one trailer has a field's name; the field is the one value
  *     SLUICEPOD_BAD_CONTENT    no closing note: a field's content is not a good one; the field is the one value
@@ -25,12 +29,12 @@
  *     SLUICEPOD_NO_KIND        `kind` is no enum sluicepod_kind
  *     SLUICEPOD_SHORT_RESULT   `result` has fewer than SLUICEPOD_RESULT_LEN entries
  * Where several hold, the code is the first of SHORT_RESULT, NO_READING, NO_KIND, TOO_LONG, BAD_PLACE, NO_ROOM, BAD_HEADER,
- * NOT_A_MAILBOX; the calls on bundles have an order of their own, below.
+ * NOT_A_MAILBOX; the calls on bundles, and the one that adds a trailer, have an order of their own, below.
  *
  * Result. The values of an answer are written to the front of `result`: result[0] says how many there are, and
  * result[1], result[2], .. are the values, in the order that each call gives below. Entries behind them are kept.
- * The refusals TOO_LONG, BAD_PLACE, NOT_A_BUNDLE, NO_READING and NO_KIND have no values (result[0] is 0), the others have
- * one.
+ * The refusals TOO_LONG, BAD_PLACE, BAD_TOKEN, BAD_VALUE, NOTHING_TO_STAND_ON, NOT_A_BUNDLE, NO_READING and NO_KIND have
+ * no values (result[0] is 0), the others have one.
  * SHORT_RESULT alone writes nothing, neither to `result` nor to `out`. Every call asks for the same SLUICEPOD_RESULT_LEN
  * entries.
  *
@@ -62,6 +66,9 @@ enum sluicepod_code {
     SLUICEPOD_TOO_LONG = 1,
     SLUICEPOD_BAD_PLACE = 2,
     SLUICEPOD_NO_ROOM = 3,
+    SLUICEPOD_BAD_TOKEN = 5,
+    SLUICEPOD_BAD_VALUE = 6,
+    SLUICEPOD_NOTHING_TO_STAND_ON = 7,
     SLUICEPOD_MISSING = 9,
     SLUICEPOD_REPEATED = 10,
     SLUICEPOD_BAD_CONTENT = 11,
@@ -241,6 +248,20 @@ uint32_t sluicepod_closing_note(const uint8_t *message, size_t message_len, uint
  * `received`, and 0 otherwise. Only SLUICEPOD_OK with 1 means yes. */
 uint32_t sluicepod_may_erase(const uint8_t *message, size_t message_len, uint32_t reading, size_t received,
                              size_t *result, size_t result_len);
+
+/* ---- A trailer added to a message */
+
+/* Writes the message with one trailer more to the front of `out`: `message` without the blank lines at its end, its last
+ * line with an LF, an empty line unless the body has an accepted block, then the token, a colon, a space and the value.
+ * The new lines end with CR LF where the last non-blank line of `message` does, and with LF elsewhere. Read again, the
+ * trailers are the old ones, at their places, and then the new one.
+ * The token is letters, digits or hyphens, at least one; the value has no LF and no white space at its ends, and may be
+ * empty. It refuses in the order SHORT_RESULT, TOO_LONG for an input, BAD_TOKEN, BAD_VALUE, NOTHING_TO_STAND_ON, TOO_LONG
+ * for the result, NO_ROOM. `out` with six bytes more than the three inputs together is always enough.
+ * Values: the length of what is written. */
+uint32_t sluicepod_add_trailer(const uint8_t *message, size_t message_len, const uint8_t *token, size_t token_len,
+                               const uint8_t *value, size_t value_len, uint8_t *out, size_t out_len, size_t *result,
+                               size_t result_len);
 
 #ifdef __cplusplus
 }

@@ -280,6 +280,25 @@ fn field(number: usize) -> Field {
     }
 }
 
+/// Writes the message with one trailer more; its length.
+pub fn add_trailer(message: &[u8], token: &[u8], value: &[u8], out: &mut [u8]) -> Result<usize, Refusal> {
+    let [_, len, ..] = ask(|result, result_len| unsafe {
+        sluicepod_add_trailer(
+            message.as_ptr(),
+            message.len(),
+            token.as_ptr(),
+            token.len(),
+            value.as_ptr(),
+            value.len(),
+            out.as_mut_ptr(),
+            out.len(),
+            result,
+            result_len,
+        )
+    })?;
+    Ok(len)
+}
+
 /// How many entries the calls ask of `result`: the first says how many values there are, and they follow it.
 const RESULT_LEN: usize = 16;
 
@@ -291,10 +310,13 @@ fn ask(call: impl FnOnce(*mut usize, usize) -> u32) -> Result<[usize; RESULT_LEN
         1 => Err(Refusal::TooLong),
         2 => Err(Refusal::BadPlace),
         3 => Err(Refusal::NoRoom { needed: result[1] }),
-        12 => Err(Refusal::NotABundle),
+        5 => Err(Refusal::BadToken),
+        6 => Err(Refusal::BadValue),
+        7 => Err(Refusal::NothingToStandOn),
         9 => Err(Refusal::Missing(field(result[1]))),
         10 => Err(Refusal::Repeated(field(result[1]))),
         11 => Err(Refusal::BadContent(field(result[1]))),
+        12 => Err(Refusal::NotABundle),
         13 => Err(Refusal::BadHeader { line: result[1] }),
         14 => Err(Refusal::NotAMailbox { at: result[1] }),
         15 => Err(Refusal::NinthComment { at: result[1] }),
@@ -425,6 +447,18 @@ extern "C" {
         message_len: usize,
         reading: u32,
         received: usize,
+        result: *mut usize,
+        result_len: usize,
+    ) -> u32;
+    fn sluicepod_add_trailer(
+        message: *const u8,
+        message_len: usize,
+        token: *const u8,
+        token_len: usize,
+        value: *const u8,
+        value_len: usize,
+        out: *mut u8,
+        out_len: usize,
         result: *mut usize,
         result_len: usize,
     ) -> u32;

@@ -8,7 +8,8 @@
 //! - Bytes are `[u8]`, not `BStr`: the crate has no dependencies.
 //! - `CommitRef::message_summary()` and `CommitRef::message_trailers()` are functions that take the commit's message.
 //! - [`BodyRef::find`] and [`BodyRef::trailer_start`] are added; so are how lines end ([`BodyRef::ending`] and the field
-//!   [`TrailerRef::ending`]), [`CommitObject`], [`mailbox`], which tells who signed, and bundles: [`write_bundle`], [`Bundle`].
+//!   [`TrailerRef::ending`]), [`CommitObject`], [`mailbox`], which tells who signed, bundles: [`write_bundle`], [`Bundle`], and
+//!   [`add_trailer`], which writes the message with one trailer more.
 //! - [`above_divider`] cuts a message above a patch, for any other call: the second [`Reading`].
 //! - [`may_erase`] says whether a bus's data may be erased, and [`closing_note`] what the entry says of it.
 //!
@@ -27,6 +28,7 @@
 
 #[allow(unsafe_code)]
 mod archive;
+mod addition;
 mod body;
 mod bundle;
 mod closing;
@@ -38,6 +40,7 @@ mod reading;
 mod refusal;
 mod value;
 
+pub use addition::{add_trailer, add_trailer_into};
 pub use body::{BodyRef, MessageBlock, MessageBlocks, TrailerRef, Trailers};
 pub use bundle::{write_bundle, write_bundle_into, Bundle, Report};
 pub use closing::{closing_note, may_erase, ClosingNote, Field};

@@ -17,6 +17,12 @@ pub enum Refusal {
         /// The length that is needed, in bytes; no shorter one will do.
         needed: usize,
     },
+    /// A token that is not letters, digits or hyphens, at least one.
+    BadToken,
+    /// A value that has an LF, or that is not its own trim.
+    BadValue,
+    /// A message without a non-blank line: a new trailer has nothing to stand on.
+    NothingToStandOn,
     /// No closing note: no trailer has the field's name.
     Missing(Field),
     /// No closing note: more than one trailer has the field's name.
@@ -50,6 +56,9 @@ impl Refusal {
             Refusal::TooLong => 1,
             Refusal::BadPlace => 2,
             Refusal::NoRoom { .. } => 3,
+            Refusal::BadToken => 5,
+            Refusal::BadValue => 6,
+            Refusal::NothingToStandOn => 7,
             Refusal::Missing(_) => 9,
             Refusal::Repeated(_) => 10,
             Refusal::BadContent(_) => 11,
@@ -67,6 +76,9 @@ impl fmt::Display for Refusal {
             Refusal::TooLong => write!(f, "the input is longer than {} bytes", LIMIT),
             Refusal::BadPlace => write!(f, "the position or range is not in the input"),
             Refusal::NoRoom { needed } => write!(f, "the buffer is too short: {} bytes are needed", needed),
+            Refusal::BadToken => write!(f, "the token is not letters, digits or hyphens, at least one"),
+            Refusal::BadValue => write!(f, "the value has a line feed, or white space at an end"),
+            Refusal::NothingToStandOn => write!(f, "the message has no line that is not blank"),
             Refusal::Missing(field) => write!(f, "no closing note: {} is missing", field.name()),
             Refusal::Repeated(field) => write!(f, "no closing note: {} is repeated", field.name()),
             Refusal::BadContent(field) => write!(f, "no closing note: the content of {} is bad", field.name()),

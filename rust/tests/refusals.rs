@@ -56,8 +56,14 @@ fn numbers_and_words() {
         Refusal::BadHeader { line: 4 },
         Refusal::NotAMailbox { at: 5 },
         Refusal::NinthComment { at: 6 },
+        Refusal::BadToken,
+        Refusal::BadValue,
+        Refusal::NothingToStandOn,
     ];
-    assert_eq!(refusals.map(|refusal| refusal.number()), [1, 2, 3, 12, 13, 14, 15]);
+    assert_eq!(
+        refusals.map(|refusal| refusal.number()),
+        [1, 2, 3, 12, 13, 14, 15, 5, 6, 7]
+    );
     let words: Box<dyn Error> = Box::new(refusals[0]);
     assert_eq!(words.to_string(), "the input is longer than 1048576 bytes");
     assert_eq!(refusals[1].to_string(), "the position or range is not in the input");

@@ -259,6 +259,7 @@ static void short_results(void) {
 #include "bundles.c"
 #include "readings.c"
 #include "closing.c"
+#include "additions.c"
 
 int main(void) {
     titles_and_summaries();
@@ -275,6 +276,7 @@ int main(void) {
     bundles();
     readings();
     closing();
+    additions();
     printf("tests/c: %d checks, %d failed\n", checks, failures);
     return failures != 0;
 }

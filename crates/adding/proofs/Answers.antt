@@ -1,21 +1,21 @@
 -- The rows of `add_trailer`, one after another: what each answer rests on, and what it leaves in the buffer. An answer is told by
 -- its number and its values, so a statement `says r ≡ ..` decides it (trailer-added-decides). Where the answer is no refusal, what
--- is asked for holds (not-refused), and so do the theorems of crates/appending. Assumes nothing.
-use mathlib.Core.Bool.{Bool, true, false, not}
+-- is asked for holds and there was room (not-refused), so the theorems of crates/appending hold (call-reads-back). Assumes nothing.
+use mathlib.Core.Bool.{Bool, true, false}
 use mathlib.Core.List.{List, [], _∷_, _++_, map}
 use mathlib.Core.Path.{_≡_, refl, sym, ap, _∙_}
 use Prim.Native.Nat.{ℕ, zero, suc, _≤_, _<_}
 use native.Mathlib.Omega.{arith}
-use borrow.Author.Tests.{le-ltb, lt-ltb}
-use lib.Dec.{T}
-use lib.ListN.{length}
+use borrow.Author.Tests.{le-ltb, lt-ltb, ltb-false}
+use lib.Dec.{ltb}
+use lib.ListN.{length, drop, length-append}
 use Rattle.rules.proofs.Answers.{Decides, decides}
-use Rattle.rules.specs.Answers.{Said, says, number, afterwards, limit, overLimit, judged, tooLong}
+use Rattle.rules.specs.Answers.{Said, says, number, values, afterwards, limit, overLimit}
 use Rattle.rules.specs.Lists.{any}
 use Rattle.appending.specs.Added.{Asked, added, goodToken, goodValue, hasLine, messageTrailers, pairOf}
 use Rattle.appending.proofs.Asked.{asked}
 use Rattle.appending.proofs.ReadBack.{read-back}
-use Rattle.adding.specs.Answers.{addAnswer, addBuffer, addedSays, newAnswer}
+use Rattle.adding.specs.Answers.{addAnswer, addBuffer, addedSays}
 use Rattle.adding.specs.declared.TrailerAdded.{TrailerAdded}
 
 module _ (message token value d : List ℕ) where
@@ -64,22 +64,49 @@ module _ (message token value d : List ℕ) where
 
 -- ---- an answer that is no refusal
 
+abbrev headOr : List ℕ → ℕ
+headOr [] = 0
+headOr (n ∷ ns) = n
+
 module _ (message token value : List ℕ) (room : ℕ) where
-  pub not-refused : number (addAnswer message token value room) ≡ 0 → Asked message token value
-  not-refused e = by (any overLimit (message ∷ token ∷ value ∷ [])) refl (goodToken token) refl (goodValue value) refl (hasLine message) refl e
+  abbrev new : List ℕ
+  new = added message token value
+
+  -- what is asked for holds, the answer is the new message's length, and there is room for it
+  abbrev pub Given : Type 0
+  Given = Asked message token value × (addAnswer message token value room ≡ says 0 (length (added message token value) ∷ [])) × (length (added message token value) ≤ room)
+
+  pub not-refused : number (addAnswer message token value room) ≡ 0 → Given
+  not-refused e =
+      by (any overLimit (message ∷ token ∷ value ∷ [])) refl (goodToken token) refl (goodValue value) refl (hasLine message) refl
+      (any overLimit (new ∷ [])) refl (ltb room (length new)) refl e
     where
       by : (a : Bool) → any overLimit (message ∷ token ∷ value ∷ []) ≡ a → (t : Bool) → goodToken token ≡ t → (v : Bool) → goodValue value ≡ v
-          → (m : Bool) → hasLine message ≡ m → number (addAnswer message token value room) ≡ 0 → Asked message token value
-      by true o t p v q m s e = absurd (let z : _≡_ {A = ℕ} 1 0 = rw o at e in omega arith)
-      by false o false p v q m s e = absurd (let z : _≡_ {A = ℕ} 5 0 = rw (o, p) at e in omega arith)
-      by false o true p false q m s e = absurd (let z : _≡_ {A = ℕ} 6 0 = rw (o, p, q) at e in omega arith)
-      by false o true p true q false s e = absurd (let z : _≡_ {A = ℕ} 7 0 = rw (o, p, q, s) at e in omega arith)
-      by false o true p true q true s e = asked message token value (rw p tt) (rw q tt) (rw s tt)
+          → (m : Bool) → hasLine message ≡ m → (o : Bool) → any overLimit (new ∷ []) ≡ o → (r : Bool) → ltb room (length new) ≡ r
+          → number (addAnswer message token value room) ≡ 0 → Given
+      by true a t p v q m s o w r x e = absurd (let z : _≡_ {A = ℕ} 1 0 = rw a at e in omega arith)
+      by false a false p v q m s o w r x e = absurd (let z : _≡_ {A = ℕ} 5 0 = rw (a, p) at e in omega arith)
+      by false a true p false q m s o w r x e = absurd (let z : _≡_ {A = ℕ} 6 0 = rw (a, p, q) at e in omega arith)
+      by false a true p true q false s o w r x e = absurd (let z : _≡_ {A = ℕ} 7 0 = rw (a, p, q, s) at e in omega arith)
+      by false a true p true q true s true w r x e = absurd (let z : _≡_ {A = ℕ} 1 0 = rw (a, p, q, s, w) at e in omega arith)
+      by false a true p true q true s false w true x e = absurd (let z : _≡_ {A = ℕ} 3 0 = rw (a, p, q, s, w, x) at e in omega arith)
+      by false a true p true q true s false w false x e =
+          (asked message token value (rw p tt) (rw q tt) (rw s tt), rw (a, p, q, s, w, x), ltb-false room (length new) x)
 
   -- "Read back, the trailers are the old ones, then the new one."
   pub call-reads-back : number (addAnswer message token value room) ≡ 0
       → map pairOf (messageTrailers (added message token value)) ≡ map pairOf (messageTrailers message) ++ ((token, value) ∷ [])
-  call-reads-back e = read-back message token value (not-refused e)
+  call-reads-back e = read-back message token value (not-refused e .0)
+
+-- what is written is a part of the buffer
+pub written-fits : (message token value d o : List ℕ) (r : TrailerAdded) (n : ℕ) → addedSays r ≡ addAnswer message token value (length d)
+    → o ≡ addBuffer message token value d → r ≡ TrailerAdded.Length n → n ≤ length o
+written-fits message token value d o r n a f k =
+    let e : says 0 (n ∷ []) ≡ addAnswer message token value (length d) = ap addedSays (sym k) ∙ a in
+    let (asked-for, s, fits) = not-refused message token value (length d) (ap number (sym e)) in
+    let new : List ℕ = added message token value in
+    let whole : o ≡ added message token value ++ drop (length (added message token value)) d = f ∙ ap (λ (w : Said). afterwards w new d) s in
+    omega (arith, ap (λ (x : Said). headOr (values x)) (e ∙ s), ap length whole, length-append new (drop (length new) d))
 
 -- ---- the answer is told by what is said of it
 

@@ -1,16 +1,16 @@
 -- The tests on a token and on a value: a run that is as long as its bytes is all of them, and so is a trim. Assumes nothing.
 use mathlib.Core.Bool.{Bool, true, false, _&&_}
 use mathlib.Core.List.{List, [], _∷_}
-use mathlib.Core.Path.{_≡_, refl, sym, ap, _∙_}
-use Prim.Native.Nat.{ℕ, zero, suc, _+_, _-_}
+use mathlib.Core.Path.{_≡_, refl, _∙_}
+use Prim.Native.Nat.{ℕ, suc, _+_, _-_}
 use native.Mathlib.Omega.{arith}
-use borrow.Author.Tests.{eqb-true, eq-eqb, ne-eqb}
-use lib.Dec.{T, eqb, eqb→eq, eqb-refl}
-use lib.ListN.{length, take, drop}
+use borrow.Author.Tests.{eq-eqb, ne-eqb}
+use lib.Dec.{eqb, eqb→eq, eqb-refl}
+use lib.ListN.{length, drop}
 use lib.Seq.{take-length}
 use Rattle.rules.specs.Bytes.{tokenByte}
 use Rattle.rules.specs.Lines.{inner}
-use Rattle.rules.specs.Lists.{if_then_else_, all, equal, filled, run}
+use Rattle.rules.specs.Lists.{if_then_else_, all, equal, run}
 use Rattle.rules.specs.Trailer.{tokenIn}
 use Rattle.rules.specs.White.{trim, trimAt}
 use Rattle.rules.proofs.Lists.{equal-is, same-test}

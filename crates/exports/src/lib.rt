@@ -1,5 +1,6 @@
 // The public calls for C and Rust, as numbers and slices: include/sluicepod.h says how they are called there. Each makes one
 // call of crates/body or crates/message, or of what its module names, and puts the numbers of its answer into `result`.
+pub mod additions;
 pub mod bundles;
 pub mod closings;
 pub mod commits;

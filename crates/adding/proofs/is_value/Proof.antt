@@ -1,6 +1,5 @@
 -- `adding::is_value` meets its contract. Assumes nothing.
 use mathlib.Core.Path.{sym}
-use native.Mathlib.Omega.{arith}
 use borrow.Author.Needs.{needs}
 use Rattle.adding.proofs.Tests.{has-lf, value-is}
 use Rattle.adding.proofs.is_value.Statement.{statement}
