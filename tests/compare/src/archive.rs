@@ -11,6 +11,9 @@ pub const OK: u32 = 0;
 pub const TOO_LONG: u32 = 1;
 pub const BAD_PLACE: u32 = 2;
 pub const NO_ROOM: u32 = 3;
+pub const BAD_TOKEN: u32 = 5;
+pub const BAD_VALUE: u32 = 6;
+pub const NOTHING_TO_STAND_ON: u32 = 7;
 pub const BAD_HEADER: u32 = 13;
 pub const NO_READING: u32 = 253;
 pub const NO_KIND: u32 = 254;
@@ -140,6 +143,18 @@ mod declared {
             message: *const u8,
             message_len: usize,
             reading: u32,
+            result: *mut usize,
+            result_len: usize,
+        ) -> u32;
+        pub fn sluicepod_add_trailer(
+            message: *const u8,
+            message_len: usize,
+            token: *const u8,
+            token_len: usize,
+            value: *const u8,
+            value_len: usize,
+            out: *mut u8,
+            out_len: usize,
             result: *mut usize,
             result_len: usize,
         ) -> u32;
@@ -282,6 +297,23 @@ pub fn write_bundle(input: &[u8], ranges: &[usize], out: &mut [u8], result: &mut
             input.len(),
             ranges.as_ptr(),
             ranges.len(),
+            out.as_mut_ptr(),
+            out.len(),
+            result.as_mut_ptr(),
+            result.len(),
+        )
+    }
+}
+
+pub fn add_trailer(message: &[u8], token: &[u8], value: &[u8], out: &mut [u8], result: &mut [usize]) -> u32 {
+    unsafe {
+        declared::sluicepod_add_trailer(
+            message.as_ptr(),
+            message.len(),
+            token.as_ptr(),
+            token.len(),
+            value.as_ptr(),
+            value.len(),
             out.as_mut_ptr(),
             out.len(),
             result.as_mut_ptr(),

@@ -1,4 +1,4 @@
-//! `git interpret-trailers --parse`, run away from every setting of the machine.
+//! `git interpret-trailers`, run away from every setting of the machine.
 
 use std::{
     env, fs,
@@ -52,10 +52,39 @@ impl Git {
 
     /// The answers to many messages, from few runs of Git.
     pub fn parse_all(&self, messages: &[Vec<u8>], settings: &[&str]) -> io::Result<Vec<Vec<u8>>> {
+        self.each(messages, settings, &["--parse"], END_ANSWER)
+    }
+
+    /// The messages with one trailer more, from few runs of Git: at the end, whatever trailers are there, and a line `---` is
+    /// no divider.
+    pub fn add_all(&self, messages: &[Vec<u8>], trailer: &str) -> io::Result<Vec<Vec<u8>>> {
+        let end = [END, trailer.as_bytes(), b"\n"].concat();
+        let words = [
+            "--no-divider",
+            "--where",
+            "end",
+            "--if-exists",
+            "add",
+            "--if-missing",
+            "add",
+            "--trailer",
+            trailer,
+        ];
+        self.each(messages, &[], &words, &end)
+    }
+
+    /// The answers to many messages; `end_answer` is the one to the message that stands behind each.
+    fn each(
+        &self,
+        messages: &[Vec<u8>],
+        settings: &[&str],
+        words: &[&str],
+        end_answer: &[u8],
+    ) -> io::Result<Vec<Vec<u8>>> {
         let mut answers = Vec::with_capacity(messages.len());
         for some in messages.chunks(1000) {
             let mut git = self.command(settings);
-            git.args(["interpret-trailers", "--parse"]);
+            git.arg("interpret-trailers").args(words);
             for (number, message) in some.iter().enumerate() {
                 let name = number.to_string();
                 fs::write(self.folder.join(&name), message)?;
@@ -65,11 +94,11 @@ impl Git {
             let mut rest = &out[..];
             for _ in some {
                 let end = rest
-                    .windows(END_ANSWER.len())
-                    .position(|window| window == END_ANSWER)
+                    .windows(end_answer.len())
+                    .position(|window| window == end_answer)
                     .ok_or_else(|| io::Error::other("an answer of Git is missing"))?;
                 answers.push(rest[..end].to_vec());
-                rest = &rest[end + END_ANSWER.len()..];
+                rest = &rest[end + end_answer.len()..];
             }
         }
         Ok(answers)

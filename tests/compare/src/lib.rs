@@ -11,6 +11,8 @@
 //! ends at the first input on which the two disagree and makes it small; `answers::difference` names the field. `readings` does
 //! the same for the second reading, whose cut `divider` reads by itself.
 
+#[cfg(feature = "archive")]
+pub mod additions;
 pub mod answers;
 #[cfg(feature = "archive")]
 pub mod archive;

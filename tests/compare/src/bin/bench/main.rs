@@ -5,12 +5,14 @@
 //!     bench commits      the headers of commit objects alone
 //!     bench divider      the end of a message above its divider alone; fails where it takes more than twice as long as a search
 //!                        for the message's LFs
+//!     bench additions    a trailer added to a message alone
 //!
 //! The mailbox call, which the original does not have, is timed by itself, on a mebibyte and on half of it.
 //!
 //! The two sides take turns; the figures are medians over the rounds. Before anything is timed, the two must agree in all
 //! answers about every shape.
 
+mod additions;
 mod calls;
 mod commits;
 mod divider;
@@ -41,6 +43,7 @@ fn main() -> ExitCode {
         ["--markdown"] => markdown,
         ["commits"] => |_: &[Shape]| commit_table(),
         ["divider"] => return divider_table(),
+        ["additions"] => |_: &[Shape]| addition_table(),
         _ => {
             eprintln!("bench: no such option");
             return ExitCode::FAILURE;
@@ -87,6 +90,9 @@ fn plain(shapes: &[Shape]) {
     }
     let (name, Row { call, race }) = night::report();
     line(call, &name, &race);
+    for additions::Row { message, race } in additions::rows() {
+        line("a trailer added, beside a copy", &message, &race);
+    }
 }
 
 fn line(call: &str, shape: &str, race: &Race) {
@@ -109,6 +115,20 @@ fn markdown(shapes: &[Shape]) {
     println!("\n`*` the port needs less than {CALL_NS} ns: this is what a call costs, and hardly anything is read.");
     commit_table();
     divider_table();
+    addition_table();
+}
+
+/// A trailer added: how many times as long as a copy of the message it takes.
+fn addition_table() {
+    println!("\n| message | copy, ns | a trailer added, ns | by the copy |\n|---|---:|---:|---:|");
+    for additions::Row { message, race } in additions::rows() {
+        println!(
+            "| {message} | {:.0} | {:.0} | {:.2} |",
+            race.original,
+            race.ours,
+            1.0 / race.ratio
+        );
+    }
 }
 
 /// Headers of commit objects: how many times as long as a search for their LFs each call takes.

@@ -90,7 +90,7 @@ Reviewed-by: C O Mitter <committer@example.com>
 Signed-off-by: A U Thor <author@example.com>
 ";
 
-fn over_a_foot(name: &str, len: usize) -> Shape {
+pub fn over_a_foot(name: &str, len: usize) -> Shape {
     let text = repeated(b"", TEXT, len - FOOT.len());
     let body = [&text, FOOT].concat();
     Shape {
