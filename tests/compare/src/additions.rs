@@ -93,3 +93,61 @@ pub fn read(message: &[u8]) -> Vec<(usize, Vec<u8>, Vec<u8>)> {
     };
     theirs::message_trailers(message).iter().map(told).collect()
 }
+
+#[cfg(test)]
+mod tests {
+    use super::*;
+    use crate::{inputs::Plan, search};
+
+    #[test]
+    fn the_worked_examples() {
+        let rows: [(&[u8], &[u8], &[u8], Added); 6] = [
+            (b"t", b"A", b"v", Ok(b"t\n\nA: v\n".to_vec())),
+            (b"t\r", b"A", b"v", Ok(b"t\r\n\nA: v\n".to_vec())),
+            (b"t\r\n\r\n", b"A", b"v", Ok(b"t\r\n\r\nA: v\r\n".to_vec())),
+            (b"t\n\nB: c\n\n \n", b"A", b"v", Ok(b"t\n\nB: c\nA: v\n".to_vec())),
+            (b"", b"", b" ", Err(BAD_TOKEN)),
+            (b"t", b"A", b"", Ok(b"t\n\nA: \n".to_vec())),
+        ];
+        for (message, token, value, wanted) in rows {
+            assert_eq!(by_hand(message, token, value), wanted);
+            assert_eq!(ours(message, token, value), wanted);
+        }
+    }
+
+    /// A smallest message that the comparison finds where the port's answer is changed.
+    fn found(fault: fn(&[u8], Vec<u8>) -> Vec<u8>) -> Vec<u8> {
+        let plan = Plan {
+            seed: 1,
+            deeper: -3,
+            messages: 200,
+            long: false,
+        };
+        let faulty = |message: &[u8]| ours(message, b"A", b"v").map(|new| fault(message, new));
+        let outcome = search::compare(&plan, |message| by_hand(message, b"A", b"v"), faulty);
+        outcome.found.expect("the fault is found").shrunk
+    }
+
+    #[test]
+    fn planted_faults_are_found() {
+        let without_cr = |_: &[u8], mut new: Vec<u8>| {
+            if new.ends_with(b"\r\n") {
+                new.truncate(new.len() - 2);
+                new.push(b'\n');
+            }
+            new
+        };
+        assert!(found(without_cr).ends_with(b"\r\n"));
+        let glued = |message: &[u8], new: Vec<u8>| match message.ends_with(b"\n") {
+            true => new,
+            false => [message, b"A: v\n"].concat(),
+        };
+        assert!(!found(glued).ends_with(b"\n"));
+        let below_a_cherry_pick =
+            |message: &[u8], new: Vec<u8>| match message.ends_with(b"(cherry picked from commit 1)\n") {
+                true => [message, b"\nA: v\n"].concat(),
+                false => new,
+            };
+        assert!(found(below_a_cherry_pick).ends_with(b"(cherry picked from commit 1)\n"));
+    }
+}
