@@ -3,7 +3,7 @@ use mathlib.Core.Bool.{true, false}
 use mathlib.Core.List.{List, [], _∷_}
 use mathlib.Core.Option.{Option, none, some}
 use mathlib.Core.Path.{_≡_, refl, ap, _∙_}
-use Prim.Native.Nat.{ℕ, _-_, _≤_}
+use Prim.Native.Nat.{ℕ, _+_, _-_, _≤_}
 use native.Mathlib.Omega.{arith}
 use borrow.Author.Tests.{le-ltb}
 use lib.Dec.{leb, ltb}
@@ -16,22 +16,25 @@ use Rattle.record.specs.Read.{trailerRead}
 use Rattle.record.specs.declared.TrailerRead.{TrailerRead}
 use Rattle.rules.specs.Answers.{Said, judged, limit, noRoom, number, trailerFoundSays, trailerStepSays, values}
 use Rattle.rules.specs.Division.{Block, block}
+use Rattle.rules.specs.Number.{cursorAt, cursorFits, lineNumber, movedOn}
 use Rattle.rules.specs.Paragraph.{blockStart}
 use Rattle.rules.specs.Record.{fitted, placesOf, recordOf, writtenOf}
-use Rattle.rules.specs.Trailer.{Trailer, lookup, only, rawValue, walkFrom}
+use Rattle.rules.specs.Trailer.{Trailer, isOf, lookup, only, placeOf, rawValue, walkFrom}
 use Rattle.rules.specs.declared.BlockStep.{BlockStep}
+use Rattle.rules.specs.declared.Cursor.{Cursor}
 use Rattle.rules.specs.declared.Kind.{Kind}
 use Rattle.rules.specs.declared.Places.{Places}
 use Rattle.rules.specs.declared.TrailerFound.{TrailerFound}
 use Rattle.rules.specs.declared.TrailerRef.{TrailerRef}
 use Rattle.rules.specs.declared.TrailerStep.{TrailerStep}
 use Rattle.rules.proofs.Answers.{judged-answer, trailer-step-decides}
+use Rattle.rules.proofs.Number.{fits-is, moved-twice, moved-within}
 use Rattle.rules.proofs.Record.{places-fit}
-use Rattle.rules.proofs.Walk.{Stands, lookup-stands, only-stands}
+use Rattle.rules.proofs.Walk.{Stands, lookup-stands, only-stands, those-place}
 use Rattle.trailer.proofs.Steps.{First, first-is, none-is}
 use Rattle.trailer.specs.Walk.{nextOf}
 use Rattle.trailer.specs.declared.walk.NextTrailer.{NextTrailer}
-use Rattle.body.specs.Body.{blockCursor, cursor, findAnswer, findBuffer, firstBlock, firstStep, stepAnswer, stepBuffer, stepRows}
+use Rattle.body.specs.Body.{blockCursor, findAnswer, findBuffer, firstBlock, firstStep, stepAnswer, stepBuffer, stepRows}
 
 -- ---- the block step
 
@@ -47,15 +50,15 @@ block-ended body at (block m t ∷ bs) q = let z : _≡_ {A = ℕ} 0 1 = cc in a
 
 -- ---- the trailer step, behind refusals 1 and 2: `ts` are the trailers that the filter leaves
 
-module _ (kind : Kind) (body : List ℕ) (at : ℕ) (short : ltb limit (length body) ≡ false) (fits : leb at (length body) ≡ true) where
+module _ (kind : Kind) (body : List ℕ) (c : Cursor) (short : ltb limit (length body) ≡ false) (fits : cursorFits c body ≡ true) where
   abbrev ts : List Trailer
-  ts = only kind (walkFrom body at)
+  ts = only kind (walkFrom body (c .at))
 
   module _ (q : nextOf ts ≡ NextTrailer.End) where
-    pub step-ended : (room : ℕ) → trailerStepSays (TrailerStep.End (cursor (length body))) ≡ stepAnswer kind body at room
-    step-ended room = rw (short, fits, none-is ts q, le-ltb room 0 (omega arith))
+    pub step-ended : {end : Cursor} → end ≡ movedOn body c (length body) → (room : ℕ) → trailerStepSays (TrailerStep.End end) ≡ stepAnswer kind body c room
+    step-ended e room = rw (e, short, fits, none-is ts q, le-ltb room 0 (omega arith))
 
-    pub buffer-ended : (out : List ℕ) → out ≡ stepBuffer kind body at out
+    pub buffer-ended : (out : List ℕ) → out ≡ stepBuffer kind body c out
     buffer-ended out = rw (short, fits, none-is ts q, le-ltb (length out) 0 (omega arith))
 
   module _ {p : Places} (q : nextOf ts ≡ NextTrailer.Trailer p) where
@@ -63,10 +66,28 @@ module _ (kind : Kind) (body : List ℕ) (at : ℕ) (short : ltb limit (length b
     f = first-is ts q
 
     w : Stands body (f .found)
-    w = only-stands body at kind (f .walked)
+    w = only-stands body (c .at) kind (f .walked)
 
-    abbrev said : ℕ → TrailerRef → Said
-    said end r = trailerStepSays (TrailerStep.Trailer r (cursor end))
+    -- the cursor may be moved on to the trailer's start, and from there to its end
+    pub start-fits : (c .line ≤ c .at + 1) × (c .at ≤ p .start) × (p .start ≤ length body)
+    start-fits =
+        let (a, b, d, e) = places-fit w (f .places) in
+        let place = those-place body (isOf kind) (c .at) (walkFrom body (c .at)) (f .found) (f .later) refl (f .walked) in
+        let here : p .start ≡ placeOf (f .found) = ap (λ (k : Places). k .start) (f .places) in
+        (fits-is body c fits .2, omega (arith, place, here), omega (arith, a, b, d, e))
+
+    pub end-fits : {here : Cursor} → here ≡ movedOn body c (p .start) → (here .line ≤ here .at + 1) × (here .at ≤ p .end) × (p .end ≤ length body)
+    end-fits h =
+        let (a, b, d, e) = places-fit w (f .places) in
+        rw h (moved-within body c (p .start) (start-fits .0) (start-fits .1), omega (arith, a, b, d), e)
+
+    pub next-is : {here next : Cursor} → here ≡ movedOn body c (p .start) → next ≡ movedOn body here (p .end) → next ≡ movedOn body c (p .end)
+    next-is h n =
+        let (a, b, d, e) = places-fit w (f .places) in
+        n ∙ ap (λ (k : Cursor). movedOn body k (p .end)) h ∙ moved-twice body c (p .start) (p .end) (start-fits .1) (omega (arith, a, b, d))
+
+    abbrev said : Cursor → TrailerRef → Said
+    said next r = trailerStepSays (TrailerStep.Trailer r next)
 
     abbrev written : List ℕ
     written = writtenOf (rawValue (f .found))
@@ -74,23 +95,26 @@ module _ (kind : Kind) (body : List ℕ) (at : ℕ) (short : ltb limit (length b
     pub step-fits : (p .«value_start» ≤ p .end) × (p .end ≤ length body)
     step-fits = let (a, b, c, d) = places-fit w (f .places) in (c, d)
 
-    pub step-found : {r : TrailerRead} (room : ℕ) → r ≡ trailerRead p (take (p .end - p .«value_start») (drop (p .«value_start») body)) room
-        → saidOf (said (p .end)) r ≡ stepAnswer kind body at room
-    step-found room e =
-        read-answer w (f .places) (said (p .end)) room e
-        ∙ ap (λ (at : Places). judged (noRoom (length written) room ∷ []) (said (at .end) (recordOf (f .found)))) (f .places)
+    pub step-found : {here next : Cursor} → here ≡ movedOn body c (p .start) → next ≡ movedOn body here (p .end)
+        → {r : TrailerRead} (room : ℕ) → r ≡ trailerRead (here .line) p (take (p .end - p .«value_start») (drop (p .«value_start») body)) room
+        → saidOf (said next) r ≡ stepAnswer kind body c room
+    step-found {here} {next} h n room e =
+        read-answer w (f .places) (said next) (here .line) room e
+        ∙ ap (λ (k : Cursor). judged (noRoom (length written) room ∷ []) (said k (recordOf (here .line) (f .found)))) (next-is h n)
+        ∙ ap (λ (k : Cursor). judged (noRoom (length written) room ∷ []) (said (movedOn body c (p .end)) (recordOf (k .line) (f .found)))) h
+        ∙ ap (λ (at : Places). judged (noRoom (length written) room ∷ []) (said (movedOn body c (at .end)) (recordOf (movedOn body c (at .start) .line) (f .found)))) (f .places)
         ∙ rw (short, fits, f .walked)
 
     pub step-left : (out : List ℕ) {left : List ℕ} → left ≡ fitted (writtenOf (take (p .end - p .«value_start») (drop (p .«value_start») body))) out
-        → left ≡ stepBuffer kind body at out
-    step-left out e = read-left w (f .places) out (values (trailerStepSays (firstStep body (f .found ∷ f .later)))) e ∙ rw (short, fits, f .walked)
+        → left ≡ stepBuffer kind body c out
+    step-left out e = read-left w (f .places) out (values (trailerStepSays (firstStep body c (f .found ∷ f .later)))) e ∙ rw (short, fits, f .walked)
 
 -- a step that is not refused has answered the first of them
-pub step-is : (kind : Kind) (body : List ℕ) (at room : ℕ) (r : TrailerStep) → trailerStepSays r ≡ stepAnswer kind body at room
-    → number (trailerStepSays r) ≡ 0 → r ≡ firstStep body (only kind (walkFrom body at))
-step-is kind body at room r e z =
-    let answer : TrailerStep = firstStep body (only kind (walkFrom body at)) in
-    trailer-step-decides (trailerStepSays answer) r answer (judged-answer (stepRows kind body at room) tt z e) refl
+pub step-is : (kind : Kind) (body : List ℕ) (c : Cursor) (room : ℕ) (r : TrailerStep) → trailerStepSays r ≡ stepAnswer kind body c room
+    → number (trailerStepSays r) ≡ 0 → r ≡ firstStep body c (only kind (walkFrom body (c .at)))
+step-is kind body c room r e z =
+    let answer : TrailerStep = firstStep body c (only kind (walkFrom body (c .at))) in
+    trailer-step-decides (trailerStepSays answer) r answer (judged-answer (stepRows kind body c room) tt z e) refl
 
 -- ---- the lookup, behind refusal 1
 
@@ -129,10 +153,17 @@ module _ (body name : List ℕ) (short : ltb limit (length body) ≡ false) (bri
     pub find-fits : (p .«value_start» ≤ p .end) × (p .end ≤ length body)
     find-fits = let (a, b, c, d) = places-fit at-l (l .places) in (c, d)
 
-    pub find-found : {r : TrailerRead} (room : ℕ) → r ≡ trailerRead p (take (p .end - p .«value_start») (drop (p .«value_start») body)) room
+    pub start-inside : p .start ≤ length body
+    start-inside = let (a, b, c, d) = places-fit at-l (l .places) in omega (arith, a, b, c, d)
+
+    pub find-found : {here : Cursor} → here ≡ cursorAt body (p .start)
+        → {r : TrailerRead} (room : ℕ) → r ≡ trailerRead (here .line) p (take (p .end - p .«value_start») (drop (p .«value_start») body)) room
         → saidOf (λ x. trailerFoundSays (TrailerFound.Trailer x)) r ≡ findAnswer body name room
-    find-found room e = read-answer at-l (l .places) (λ x. trailerFoundSays (TrailerFound.Trailer x)) room e ∙ rw (short, brief, l .there)
+    find-found {here} h room e =
+        let number-is : here .line ≡ lineNumber body (placeOf (l .found)) = ap (λ (k : Cursor). k .line) h ∙ ap (λ (at : Places). lineNumber body (at .start)) (l .places) in
+        read-answer at-l (l .places) (λ x. trailerFoundSays (TrailerFound.Trailer x)) (here .line) room e
+        ∙ rw (number-is, short, brief, l .there)
 
     pub find-left : (out : List ℕ) {left : List ℕ} → left ≡ fitted (writtenOf (take (p .end - p .«value_start») (drop (p .«value_start») body))) out
         → left ≡ findBuffer body name out
-    find-left out e = read-left at-l (l .places) out (values (trailerFoundSays (TrailerFound.Trailer (recordOf (l .found))))) e ∙ rw (short, brief, l .there)
+    find-left out e = read-left at-l (l .places) out (values (trailerFoundSays (TrailerFound.Trailer (recordOf (lineNumber body (placeOf (l .found))) (l .found))))) e ∙ rw (short, brief, l .there)

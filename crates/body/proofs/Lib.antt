@@ -2,3 +2,4 @@
 pub mod Calls
 pub mod Examples
 pub mod Before
+pub mod Walked

@@ -5,12 +5,13 @@ use mathlib.Core.Option.{Option, none, some}
 use Prim.Native.Nat.{ℕ, _+_, _-_}
 use lib.ListN.{length, take, drop}
 use Rattle.rules.specs.Answers.{Said, Row, judged, tooLong, misplaced, noRoom, afterwards, placeFits, rangeFits}
-use Rattle.rules.specs.Answers.{blockStepSays, startSays, trailerFoundSays, trailerStepSays, yesNoSays}
+use Rattle.rules.specs.Answers.{blockStepSays, startSays, trailerFoundSays, trailerStepSays, walkFoundSays, yesNoSays}
 use Rattle.rules.specs.Division.{Block, block, blocksFrom}
 use Rattle.rules.specs.Lists.{if_then_else_}
+use Rattle.rules.specs.Number.{cursorAt, cursorFits, lineNumber, movedOn}
 use Rattle.rules.specs.Paragraph.{blockStart, endingBelow}
 use Rattle.rules.specs.Record.{recordOf, writtenOf}
-use Rattle.rules.specs.Trailer.{Trailer, endOf, rawValue, isOf, lookup, only, walkFrom}
+use Rattle.rules.specs.Trailer.{Trailer, placeOf, endOf, rawValue, isOf, lookup, only, walkFrom}
 use Rattle.rules.specs.declared.BlockCursor.{BlockCursor}
 use Rattle.rules.specs.declared.BlockStep.{BlockStep}
 use Rattle.rules.specs.declared.Cursor.{Cursor}
@@ -18,38 +19,47 @@ use Rattle.rules.specs.declared.Kind.{Kind}
 use Rattle.rules.specs.declared.StartFound.{StartFound}
 use Rattle.rules.specs.declared.TrailerFound.{TrailerFound}
 use Rattle.rules.specs.declared.TrailerStep.{TrailerStep}
+use Rattle.rules.specs.declared.WalkFound.{WalkFound}
 use Rattle.rules.specs.declared.YesNo.{YesNo}
 
 -- ---- `next_trailer` and the filters: `ts` are the trailers from the cursor on that the filter `kind` leaves
 
-abbrev pub cursor : ℕ → Cursor
-cursor at = record { at = at }
-
--- the record of the first of them and the cursor behind it; "at the end, the cursor is the input's length"
-abbrev pub firstStep : List ℕ → List Trailer → TrailerStep
-firstStep body [] = TrailerStep.End (cursor (length body))
-firstStep body (t ∷ ts) = TrailerStep.Trailer (recordOf t) (cursor (endOf t))
+-- the record of the first of them and the cursor behind it; "at the end, the cursor is the input's length". The numbers are counted
+-- on from the cursor's
+abbrev pub firstStep : List ℕ → Cursor → List Trailer → TrailerStep
+firstStep body c [] = TrailerStep.End (movedOn body c (length body))
+firstStep body c (t ∷ ts) = TrailerStep.Trailer (recordOf (movedOn body c (placeOf t) .line) t) (movedOn body c (endOf t))
 
 abbrev pub firstWrites : List Trailer → List ℕ
 firstWrites [] = []
 firstWrites (t ∷ ts) = writtenOf (rawValue t)
 
-abbrev pub stepRows : Kind → List ℕ → ℕ → ℕ → List Row
-stepRows kind body at room =
-    tooLong (body ∷ []) ∷ misplaced (placeFits at body) ∷ noRoom (length (firstWrites (only kind (walkFrom body at)))) room ∷ []
+abbrev pub stepRows : Kind → List ℕ → Cursor → ℕ → List Row
+stepRows kind body c room =
+    tooLong (body ∷ []) ∷ misplaced (cursorFits c body) ∷ noRoom (length (firstWrites (only kind (walkFrom body (c .at))))) room ∷ []
 
-abbrev pub stepAnswer : Kind → List ℕ → ℕ → ℕ → Said
-stepAnswer kind body at room =
-    judged (stepRows kind body at room) (trailerStepSays (firstStep body (only kind (walkFrom body at))))
+abbrev pub stepAnswer : Kind → List ℕ → Cursor → ℕ → Said
+stepAnswer kind body c room =
+    judged (stepRows kind body c room) (trailerStepSays (firstStep body c (only kind (walkFrom body (c .at)))))
 
-abbrev pub stepBuffer : Kind → List ℕ → ℕ → List ℕ → List ℕ
-stepBuffer kind body at out = afterwards (stepAnswer kind body at (length out)) (firstWrites (only kind (walkFrom body at))) out
+abbrev pub stepBuffer : Kind → List ℕ → Cursor → List ℕ → List ℕ
+stepBuffer kind body c out =
+    afterwards (stepAnswer kind body c (length out)) (firstWrites (only kind (walkFrom body (c .at)))) out
+
+-- ---- where a walk begins: `cursor_at` a place, and `body_trailers`, the original's `trailers()`
+
+abbrev pub cursorAnswer : List ℕ → ℕ → Said
+cursorAnswer input at =
+    judged (tooLong (input ∷ []) ∷ misplaced (placeFits at input) ∷ []) (walkFoundSays (WalkFound.From (cursorAt input at)))
+
+abbrev pub trailersAnswer : List ℕ → Said
+trailersAnswer body = judged (tooLong (body ∷ []) ∷ []) (walkFoundSays (WalkFound.From (cursorAt body (blockStart body))))
 
 -- ---- `find_trailer`: the trailers are those of the body's walk
 
-abbrev pub foundOf : Option Trailer → TrailerFound
-foundOf none = TrailerFound.NoSuchTrailer
-foundOf (some t) = TrailerFound.Trailer (recordOf t)
+abbrev pub foundOf : List ℕ → Option Trailer → TrailerFound
+foundOf body none = TrailerFound.NoSuchTrailer
+foundOf body (some t) = TrailerFound.Trailer (recordOf (lineNumber body (placeOf t)) t)
 
 abbrev pub foundWrites : Option Trailer → List ℕ
 foundWrites none = []
@@ -61,7 +71,7 @@ findRows body name room =
 
 abbrev pub findAnswer : List ℕ → List ℕ → ℕ → Said
 findAnswer body name room =
-    judged (findRows body name room) (trailerFoundSays (foundOf (lookup name (walkFrom body (blockStart body)))))
+    judged (findRows body name room) (trailerFoundSays (foundOf body (lookup name (walkFrom body (blockStart body)))))
 
 abbrev pub findBuffer : List ℕ → List ℕ → List ℕ → List ℕ
 findBuffer body name out =

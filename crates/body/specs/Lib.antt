@@ -2,3 +2,4 @@
 pub mod Body
 pub mod Examples
 pub mod Before
+pub mod Walked

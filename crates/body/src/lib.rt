@@ -1,13 +1,16 @@
 // The calls on a body: trailers, blocks, attribution. The original's body.rs.
 ghost use mathlib.Core.Path.{_≡_};
 ghost use lib.ListN.{length};
-ghost use Rattle.rules.specs.Answers.{blockStepSays, startSays, trailerFoundSays, trailerStepSays, yesNoSays};
+ghost use Rattle.rules.specs.Answers.{blockStepSays, startSays, trailerFoundSays, trailerStepSays, walkFoundSays, yesNoSays};
 ghost use Rattle.rules.specs.declared.Kind.{Kind};
-ghost use Rattle.body.specs.Body.{blockAnswer, findAnswer, findBuffer, questionAnswer, startAnswer, stepAnswer, stepBuffer};
+ghost use Rattle.body.specs.Body.{blockAnswer, cursorAnswer, findAnswer, findBuffer, questionAnswer, startAnswer, stepAnswer, stepBuffer, trailersAnswer};
 use block::NextBlock;
 use block::next_block_from;
 use filter::find_named;
 use filter::next_of;
+use numbering::cursor_fits;
+use numbering::move_on;
+use numbering::right_cursor;
 use paragraph::last_ending;
 use record::TrailerRead;
 use record::read_trailer;
@@ -21,6 +24,7 @@ use rules::Refusal;
 use rules::StartFound;
 use rules::TrailerFound;
 use rules::TrailerStep;
+use rules::WalkFound;
 use rules::YesNo;
 use trailer::walk::NextTrailer;
 
@@ -38,36 +42,61 @@ pub fn trailer_block_start(body: &[u8]) -> StartFound
 
 // The next trailer from the cursor on whose token is of the kind; the others are passed over, and write nothing.
 pub fn next_trailer_of(body: &[u8], cursor: Cursor, kind: Kind, out: &mut [u8]) -> TrailerStep
-    ensures { λ r. ⌜ trailerStepSays r ≡ stepAnswer kind (now (body .entry)) (cursor .at) (length (now (out .entry))) ⌝ }
-    ensures { λ _. ⌜ now (out .exit) ≡ stepBuffer kind (now (body .entry)) (cursor .at) (now (out .entry)) ⌝ }
+    ensures { λ r. ⌜ trailerStepSays r ≡ stepAnswer kind (now (body .entry)) cursor (length (now (out .entry))) ⌝ }
+    ensures { λ _. ⌜ now (out .exit) ≡ stepBuffer kind (now (body .entry)) cursor (now (out .entry)) ⌝ }
 {
     let at = cursor.at;
     let len = body.len();
     if len > LIMIT {
         return TrailerStep::Refused(Refusal::TooLong);
     }
-    if len < at {
+    if !cursor_fits(cursor, body) {
         return TrailerStep::Refused(Refusal::BadPlace);
     }
     let NextTrailer::Trailer(places) = next_of(body, at, kind) else {
-        return TrailerStep::End(Cursor { at: len });
+        return TrailerStep::End(move_on(body, cursor, len));
     };
-    let read = read_trailer(body, places, out);
+    let start = places.start;
+    let end = places.end;
+    let here = move_on(body, cursor, start);
+    let next = move_on(body, here, end);
+    let read = read_trailer(body, places, here.line, out);
     match read {
-        TrailerRead::Trailer(found) => TrailerStep::Trailer {
-            found,
-            next: Cursor { at: places.end },
-        },
+        TrailerRead::Trailer(found) => TrailerStep::Trailer { found, next },
         TrailerRead::Refused(refusal) => TrailerStep::Refused(refusal),
     }
 }
 
 // The next trailer from the cursor on.
 pub fn next_trailer(body: &[u8], cursor: Cursor, out: &mut [u8]) -> TrailerStep
-    ensures { λ r. ⌜ trailerStepSays r ≡ stepAnswer Kind.All (now (body .entry)) (cursor .at) (length (now (out .entry))) ⌝ }
-    ensures { λ _. ⌜ now (out .exit) ≡ stepBuffer Kind.All (now (body .entry)) (cursor .at) (now (out .entry)) ⌝ }
+    ensures { λ r. ⌜ trailerStepSays r ≡ stepAnswer Kind.All (now (body .entry)) cursor (length (now (out .entry))) ⌝ }
+    ensures { λ _. ⌜ now (out .exit) ≡ stepBuffer Kind.All (now (body .entry)) cursor (now (out .entry)) ⌝ }
 {
     next_trailer_of(body, cursor, Kind::All, out)
+}
+
+// The cursor of a place of `input`, with the number of its line.
+pub fn cursor_at(input: &[u8], at: usize) -> WalkFound
+    ensures { λ r. ⌜ walkFoundSays r ≡ cursorAnswer (now (input .entry)) at ⌝ }
+{
+    if input.len() > LIMIT {
+        return WalkFound::Refused(Refusal::TooLong);
+    }
+    if input.len() < at {
+        return WalkFound::Refused(Refusal::BadPlace);
+    }
+    WalkFound::From(right_cursor(input, at))
+}
+
+// Where the walk of the body's trailers begins: at its trailer block, or at its end where it has none.
+pub fn body_trailers(body: &[u8]) -> WalkFound
+    ensures { λ r. ⌜ walkFoundSays r ≡ trailersAnswer (now (body .entry)) ⌝ }
+{
+    if body.len() > LIMIT {
+        return WalkFound::Refused(Refusal::TooLong);
+    }
+    let at = paragraph::trailer_block_start(body);
+    WalkFound::From(right_cursor(body, at))
 }
 
 // The next block from the cursor on: a message, and the trailers following it.
@@ -187,7 +216,9 @@ pub fn find_trailer(body: &[u8], name: &[u8], out: &mut [u8]) -> TrailerFound
     let NextTrailer::Trailer(places) = find_named(body, at, name) else {
         return TrailerFound::NoSuchTrailer;
     };
-    let read = read_trailer(body, places, out);
+    let start = places.start;
+    let there = right_cursor(body, start);
+    let read = read_trailer(body, places, there.line, out);
     match read {
         TrailerRead::Trailer(found) => TrailerFound::Trailer(found),
         TrailerRead::Refused(refusal) => TrailerFound::Refused(refusal),

@@ -9,34 +9,34 @@ use body::next_trailer;
 use rules::Cursor;
 use rules::TrailerStep;
 
-// Of `step_from`: the answer, and where the cursor then stands.
+// Of `step_from`: the answer, and the cursor after it.
 struct Stepped {
     step: TrailerStep,
-    at: usize,
+    next: Cursor,
 }
 
-// The next trailer from `at` on, and where the walk goes on; at `at` where it is refused.
-fn step_from(body: &[u8], at: usize, out: &mut [u8]) -> Stepped
-    ensures { λ r. ⌜ trailerStepSays (r .step) ≡ stepAnswer Kind.All (now (body .entry)) at (length (now (out .entry))) ⌝ }
-    ensures { λ r. ⌜ r .at ≡ cursorLeft (now (body .entry)) at (length (now (out .entry))) ⌝ }
-    ensures { λ _. ⌜ now (out .exit) ≡ stepBuffer Kind.All (now (body .entry)) at (now (out .entry)) ⌝ }
+// The next trailer from a cursor on, and where the walk goes on; the cursor itself where the step is refused.
+fn step_from(body: &[u8], cursor: Cursor, out: &mut [u8]) -> Stepped
+    ensures { λ r. ⌜ trailerStepSays (r .step) ≡ stepAnswer Kind.All (now (body .entry)) cursor (length (now (out .entry))) ⌝ }
+    ensures { λ r. ⌜ r .next ≡ cursorLeft (now (body .entry)) cursor (length (now (out .entry))) ⌝ }
+    ensures { λ _. ⌜ now (out .exit) ≡ stepBuffer Kind.All (now (body .entry)) cursor (now (out .entry)) ⌝ }
 {
-    let step = next_trailer(body, Cursor { at }, out);
+    let step = next_trailer(body, cursor, out);
     match step {
-        TrailerStep::Trailer { next, .. } => Stepped { step, at: next.at },
-        TrailerStep::End(next) => Stepped { step, at: next.at },
-        TrailerStep::Refused(_) => Stepped { step, at },
+        TrailerStep::Trailer { next, .. } => Stepped { step, next },
+        TrailerStep::End(next) => Stepped { step, next },
+        TrailerStep::Refused(_) => Stepped { step, next: cursor },
     }
 }
 
 // The next trailer from the cursor on; the cursor is moved on in place, and stays where the step is refused.
 pub fn next_trailer_in_place(cursor: &mut Cursor, body: &[u8], out: &mut [u8]) -> TrailerStep
-    ensures { λ r. ⌜ trailerStepSays r ≡ stepAnswer Kind.All (now (body .entry)) (now (cursor .entry) .at) (length (now (out .entry))) ⌝ }
-    ensures { λ _. ⌜ now (cursor .exit) .at ≡ cursorLeft (now (body .entry)) (now (cursor .entry) .at) (length (now (out .entry))) ⌝ }
-    ensures { λ _. ⌜ now (out .exit) ≡ stepBuffer Kind.All (now (body .entry)) (now (cursor .entry) .at) (now (out .entry)) ⌝ }
+    ensures { λ r. ⌜ trailerStepSays r ≡ stepAnswer Kind.All (now (body .entry)) (now (cursor .entry)) (length (now (out .entry))) ⌝ }
+    ensures { λ _. ⌜ now (cursor .exit) ≡ cursorLeft (now (body .entry)) (now (cursor .entry)) (length (now (out .entry))) ⌝ }
+    ensures { λ _. ⌜ now (out .exit) ≡ stepBuffer Kind.All (now (body .entry)) (now (cursor .entry)) (now (out .entry)) ⌝ }
 {
-    let at = cursor.at;
-    let stepped = step_from(body, at, out);
-    cursor.at = stepped.at;
+    let from = *cursor;
+    let stepped = step_from(body, from, out);
+    *cursor = stepped.next;
     stepped.step
 }

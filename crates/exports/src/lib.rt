@@ -9,11 +9,13 @@ pub mod who;
 
 ghost use mathlib.Core.Path.{_≡_};
 ghost use lib.ListN.{length};
-ghost use Rattle.body.specs.Body.{blockAnswer, findAnswer, findBuffer, startAnswer};
+ghost use Rattle.body.specs.Body.{blockAnswer, cursorAnswer, findAnswer, findBuffer, startAnswer, trailersAnswer};
 ghost use Rattle.message.specs.Decode.{titleAnswer};
 ghost use Rattle.message.specs.Message.{summaryAnswer, summaryBuffer, walkAnswer};
 ghost use Rattle.numbers.specs.Numbers.{bufferOf, codeOf, kindOf, resultOf};
-ghost use Rattle.exports.specs.ByKind.{questionOf, stepLeaves, stepOf};
+ghost use Rattle.exports.specs.ByKind.{cursor, questionOf, stepLeaves, stepOf};
+use body::body_trailers;
+use body::cursor_at;
 use body::find_trailer;
 use body::is_of_kind;
 use body::next_block;
@@ -111,18 +113,43 @@ pub extern "C" fn sluicepod_message_trailers(message: &[u8], result: &mut [usize
     put_walk(message_trailers(message), result)
 }
 
-// The next trailer from `at` on whose token is of the kind.
+// Where the walk of a body's trailers begins.
+#[no_mangle]
+pub extern "C" fn sluicepod_body_trailers(body: &[u8], result: &mut [usize]) -> u32
+    ensures { λ r. ⌜ r ≡ codeOf (trailersAnswer (now (body .entry))) (now (result .entry)) ⌝ }
+    ensures { λ _. ⌜ now (result .exit) ≡ resultOf (trailersAnswer (now (body .entry))) (now (result .entry)) ⌝ }
+{
+    if result.len() < RESULT_LEN {
+        return SHORT_RESULT;
+    }
+    put_walk(body_trailers(body), result)
+}
+
+// The cursor of the place `at`, with the number of its line.
+#[no_mangle]
+pub extern "C" fn sluicepod_cursor_at(input: &[u8], at: usize, result: &mut [usize]) -> u32
+    ensures { λ r. ⌜ r ≡ codeOf (cursorAnswer (now (input .entry)) at) (now (result .entry)) ⌝ }
+    ensures { λ _. ⌜ now (result .exit) ≡ resultOf (cursorAnswer (now (input .entry)) at) (now (result .entry)) ⌝ }
+{
+    if result.len() < RESULT_LEN {
+        return SHORT_RESULT;
+    }
+    put_walk(cursor_at(input, at), result)
+}
+
+// The next trailer from `at`, on the line with the number `line`, on whose token is of the kind.
 #[no_mangle]
 pub extern "C" fn sluicepod_next_trailer(
     body: &[u8],
     at: usize,
+    line: usize,
     kind: u32,
     out: &mut [u8],
     result: &mut [usize],
 ) -> u32
-    ensures { λ r. ⌜ r ≡ codeOf (stepOf (kindOf kind) (now (body .entry)) at (length (now (out .entry)))) (now (result .entry)) ⌝ }
-    ensures { λ _. ⌜ now (result .exit) ≡ resultOf (stepOf (kindOf kind) (now (body .entry)) at (length (now (out .entry)))) (now (result .entry)) ⌝ }
-    ensures { λ _. ⌜ now (out .exit) ≡ bufferOf (stepLeaves (kindOf kind) (now (body .entry)) at (now (out .entry))) (now (out .entry)) (now (result .entry)) ⌝ }
+    ensures { λ r. ⌜ r ≡ codeOf (stepOf (kindOf kind) (now (body .entry)) (cursor at line) (length (now (out .entry)))) (now (result .entry)) ⌝ }
+    ensures { λ _. ⌜ now (result .exit) ≡ resultOf (stepOf (kindOf kind) (now (body .entry)) (cursor at line) (length (now (out .entry)))) (now (result .entry)) ⌝ }
+    ensures { λ _. ⌜ now (out .exit) ≡ bufferOf (stepLeaves (kindOf kind) (now (body .entry)) (cursor at line) (now (out .entry))) (now (out .entry)) (now (result .entry)) ⌝ }
 {
     if result.len() < RESULT_LEN {
         return SHORT_RESULT;
@@ -130,7 +157,10 @@ pub extern "C" fn sluicepod_next_trailer(
     let Asked::Of(kind) = kind_of(kind) else {
         return put(NO_KIND, &[], result);
     };
-    put_step(next_trailer_of(body, Cursor { at }, kind, out), result)
+    put_step(
+        next_trailer_of(body, Cursor { at, line }, kind, out),
+        result,
+    )
 }
 
 // The last trailer of a body that has the name.

@@ -1,5 +1,7 @@
 // The search for an LF, forward and backward. Whole runs without one are passed over first: a run is read to its end, LF or
 // not, so that the compiler reads all of it at once.
+pub mod count;
+
 ghost use mathlib.Core.Path.{_≡_};
 ghost use Prim.Native.Nat.{_+_, _≤_};
 ghost use lib.ListN.{length, drop};

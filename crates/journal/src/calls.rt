@@ -19,7 +19,7 @@ pub fn print_calls(message: &[u8], buffer: &mut [u8]) {
     let WalkFound::From(start) = message_trailers(message) else {
         return;
     };
-    print_walk(message, start.at, buffer);
+    print_walk(message, start, buffer);
     let past = Part {
         start: 0,
         end: 1_048_577,
@@ -34,17 +34,17 @@ pub fn print_calls(message: &[u8], buffer: &mut [u8]) {
     );
 }
 
-// Prints each value of the walk from a place on that has to be written, with the room that it needs, and where the walk ends.
+// Prints each value of the walk from a cursor on that has to be written, with the room that it needs, and where the walk ends.
 // No walk has more steps than bytes, and one.
-fn print_walk(message: &[u8], from: usize, buffer: &mut [u8]) {
-    let mut at = from;
+fn print_walk(message: &[u8], from: Cursor, buffer: &mut [u8]) {
+    let mut cursor = from;
     let mut steps = 0;
     while steps <= message.len() {
-        let needed = needed_at(message, at, buffer);
-        match next_trailer(message, Cursor { at }, buffer) {
+        let needed = needed_at(message, cursor, buffer);
+        match next_trailer(message, cursor, buffer) {
             TrailerStep::Trailer { found, next } => {
                 print_needed(message, buffer, found, needed);
-                at = next.at;
+                cursor = next;
             }
             TrailerStep::End(next) => {
                 print_end(next.at, message.len());
@@ -56,12 +56,12 @@ fn print_walk(message: &[u8], from: usize, buffer: &mut [u8]) {
     }
 }
 
-// The room that the step from a place on says it needs, where it is given none; 0 where it needs none.
-fn needed_at(message: &[u8], at: usize, buffer: &mut [u8]) -> usize
+// The room that the step from a cursor on says it needs, where it is given none; 0 where it needs none.
+fn needed_at(message: &[u8], cursor: Cursor, buffer: &mut [u8]) -> usize
     ensures { λ r. ⌜ length (now (buffer .exit)) ≡ length (now (buffer .entry)) ⌝ }
 {
     let end = buffer.len();
-    match next_trailer(message, Cursor { at }, &mut buffer[end..]) {
+    match next_trailer(message, cursor, &mut buffer[end..]) {
         TrailerStep::Trailer { found: _, next: _ } => 0,
         TrailerStep::End(_) => 0,
         TrailerStep::Refused(refusal) => needed_of(refusal),

@@ -3,8 +3,9 @@
 use mathlib.Core.List.{List, [], _∷_}
 use Prim.Native.Nat.{ℕ, _+_}
 use lib.ListN.{length}
-use Rattle.rules.specs.Answers.{Said, judged, tooLong, noRoom, afterwards, valueFoundSays, walkFoundSays}
+use Rattle.rules.specs.Answers.{Said, says, judged, tooLong, noRoom, afterwards, valueFoundSays, walkFoundSays}
 use Rattle.rules.specs.Lists.{if_then_else_}
+use Rattle.rules.specs.Number.{cursorAt}
 use Rattle.rules.specs.Paragraph.{blockStart}
 use Rattle.rules.specs.Record.{part}
 use Rattle.rules.specs.Summary.{summary, summaryIsWritten}
@@ -32,10 +33,15 @@ summaryAnswer s room =
 abbrev pub summaryBuffer : List ℕ → List ℕ → List ℕ
 summaryBuffer s out = afterwards (summaryAnswer s (length out)) (summaryWrites s) out
 
--- ---- `message_trailers`: where the walk of the trailers begins in the message; its length where there is no body
+-- ---- `message_trailers`: where the walk of the trailers begins in the message; its length where there is no body. The number is that
+-- of the line in the message, "the title's lines included"
 
 abbrev pub walkStart : List ℕ → Cursor
-walkStart message = record { at = bodyStart message + blockStart (body message) }
+walkStart message = cursorAt message (bodyStart message + blockStart (body message))
 
 abbrev pub walkAnswer : List ℕ → Said
 walkAnswer message = judged (tooLong (message ∷ []) ∷ []) (walkFoundSays (WalkFound.From (walkStart message)))
+
+-- what it said before document 02's K8: the position alone (proofs/Started, walk-before)
+abbrev pub walkAnswerBefore : List ℕ → Said
+walkAnswerBefore message = judged (tooLong (message ∷ []) ∷ []) (says 0 (walkStart message .at ∷ []))

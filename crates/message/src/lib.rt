@@ -5,8 +5,8 @@ ghost use mathlib.Core.Path.{_≡_};
 ghost use lib.ListN.{length};
 ghost use Rattle.rules.specs.Answers.{valueFoundSays, walkFoundSays};
 ghost use Rattle.message.specs.Message.{summaryAnswer, summaryBuffer, walkAnswer};
+use numbering::right_cursor;
 use paragraph::trailer_block_start;
-use rules::Cursor;
 use rules::LIMIT;
 use rules::Part;
 use rules::Refusal;
@@ -36,7 +36,7 @@ pub fn message_trailers(message: &[u8]) -> WalkFound
     let places = title_and_body(message);
     let body_start = places.body_start;
     let at = body_start + trailer_block_start(&message[body_start..]);
-    WalkFound::From(Cursor { at })
+    WalkFound::From(right_cursor(message, at))
 }
 
 // The summary of a title: with no LF left in it once it is trimmed, that part of it; otherwise, folded, the front of `out`.

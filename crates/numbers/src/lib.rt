@@ -139,14 +139,14 @@ pub fn put_start(answer: StartFound, result: &mut [usize]) -> u32
     }
 }
 
-// Of an answer of `message_trailers`.
+// Of an answer of `message_trailers`, `body_trailers` and `cursor_at`.
 pub fn put_walk(answer: WalkFound, result: &mut [usize]) -> u32
     requires { ⌜ resultLength ≤ length (now result) ⌝ }
     ensures { λ r. ⌜ r ≡ codeOf (walkFoundSays answer) (now (result .entry)) ⌝ }
     ensures { λ _. ⌜ now (result .exit) ≡ resultOf (walkFoundSays answer) (now (result .entry)) ⌝ }
 {
     match answer {
-        WalkFound::From(cursor) => put(0, &[cursor.at], result),
+        WalkFound::From(cursor) => put(0, &[cursor.at, cursor.line], result),
         WalkFound::Refused(refusal) => put_refusal(refusal, result),
     }
 }
@@ -173,11 +173,13 @@ pub fn put_step(answer: TrailerStep, result: &mut [usize]) -> u32
                     at.end,
                     next.at,
                     how,
+                    found.line,
+                    next.line,
                 ],
                 result,
             )
         }
-        TrailerStep::End(next) => put(0, &[next.at], result),
+        TrailerStep::End(next) => put(0, &[next.at, next.line], result),
         TrailerStep::Refused(refusal) => put_refusal(refusal, result),
     }
 }
@@ -203,6 +205,7 @@ pub fn put_found(answer: TrailerFound, result: &mut [usize]) -> u32
                     at.start,
                     at.end,
                     how,
+                    found.line,
                 ],
                 result,
             )

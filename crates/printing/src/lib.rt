@@ -2,6 +2,8 @@
 ghost use mathlib.Core.Path.{_≡_};
 ghost use Prim.Native.Nat.{_≤_};
 ghost use lib.ListN.{length};
+ghost use mathlib.Core.Bool.{true};
+ghost use Rattle.rules.specs.Number.{cursorFits};
 ghost use Rattle.rules.specs.Trailer.{walkFrom};
 use body::next_trailer;
 use libc::STDOUT_FILENO;
@@ -41,7 +43,7 @@ pub fn print_listing(message: &[u8])
 // How many trailers the walk from `start` on finds; where `print` is set, each is printed. The buffer has room for any value
 // of the message, so no step is refused.
 fn walk(message: &[u8], start: Cursor, print: bool) -> u64
-    requires { ⌜ length (now message) ≤ 32768 ⌝ }
+    requires { ⌜ (length (now message) ≤ 32768) × (cursorFits start (now message) ≡ true) ⌝ }
     ensures { λ r. ⌜ r ≡ length (walkFrom (now (message .entry)) (start .at)) ⌝ }
 {
     let mut buffer = io::large_buffer();

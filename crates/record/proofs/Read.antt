@@ -24,18 +24,18 @@ use Rattle.record.specs.declared.TrailerRead.{TrailerRead}
 
 -- ---- from the value to the record
 
-abbrev pub withValue : Places → Ending → ValueFound → TrailerRead
-withValue at how (ValueFound.At v) =
-    TrailerRead.Trailer (record { token = part (at .start) (at .«token_end»); value = v; ending = how })
-withValue at how (ValueFound.Refused r) = TrailerRead.Refused r
+abbrev pub withValue : ℕ → Places → Ending → ValueFound → TrailerRead
+withValue line at how (ValueFound.At v) =
+    TrailerRead.Trailer (record { token = part (at .start) (at .«token_end»); value = v; ending = how; line = line })
+withValue line at how (ValueFound.Refused r) = TrailerRead.Refused r
 
-pub with-value : (at : Places) (raw : List ℕ) (room : ℕ)
-    → withValue at (ending raw) (valueFound (at .«value_start») raw room) ≡ trailerRead at raw room
-with-value at raw room = by (ltb room (length (writtenOf raw)))
+pub with-value : (line : ℕ) (at : Places) (raw : List ℕ) (room : ℕ)
+    → withValue line at (ending raw) (valueFound (at .«value_start») raw room) ≡ trailerRead line at raw room
+with-value line at raw room = by (ltb room (length (writtenOf raw)))
   where
     by : (b : Bool)
-        → withValue at (ending raw) (if b then ValueFound.Refused (Refusal.NoRoom (length (writtenOf raw))) else ValueFound.At (valueOf (at .«value_start») raw))
-        ≡ (if b then TrailerRead.Refused (Refusal.NoRoom (length (writtenOf raw))) else TrailerRead.Trailer (recordAt at raw (ending raw)))
+        → withValue line at (ending raw) (if b then ValueFound.Refused (Refusal.NoRoom (length (writtenOf raw))) else ValueFound.At (valueOf (at .«value_start») raw))
+        ≡ (if b then TrailerRead.Refused (Refusal.NoRoom (length (writtenOf raw))) else TrailerRead.Trailer (recordAt line at raw (ending raw)))
     by true = refl
     by false = refl
 
@@ -45,25 +45,25 @@ abbrev pub saidOf : (TrailerRef → Said) → TrailerRead → Said
 saidOf said (TrailerRead.Trailer r) = said r
 saidOf said (TrailerRead.Refused r) = refused r
 
-read-said : (said : TrailerRef → Said) (t : Trailer) (room : ℕ)
-    → saidOf said (readOf t room) ≡ judged (noRoom (length (writtenOf (rawValue t))) room ∷ []) (said (recordOf t))
-read-said said t room = by (ltb room (length (writtenOf (rawValue t))))
+read-said : (said : TrailerRef → Said) (line : ℕ) (t : Trailer) (room : ℕ)
+    → saidOf said (readOf line t room) ≡ judged (noRoom (length (writtenOf (rawValue t))) room ∷ []) (said (recordOf line t))
+read-said said line t room = by (ltb room (length (writtenOf (rawValue t))))
   where
     by : (b : Bool)
-        → saidOf said (if b then TrailerRead.Refused (Refusal.NoRoom (length (writtenOf (rawValue t)))) else TrailerRead.Trailer (recordOf t))
-        ≡ (if b then says 3 (length (writtenOf (rawValue t)) ∷ []) else said (recordOf t))
+        → saidOf said (if b then TrailerRead.Refused (Refusal.NoRoom (length (writtenOf (rawValue t)))) else TrailerRead.Trailer (recordOf line t))
+        ≡ (if b then says 3 (length (writtenOf (rawValue t)) ∷ []) else said (recordOf line t))
     by true = refl
     by false = refl
 
 -- of a trailer that stands in the body at the places `at`: its record behind refusal 3, and what is left in the buffer
 module _ {body : List ℕ} {t : Trailer} {at : Places} (w : Stands body t) (e : at ≡ placesOf t) where
-  pub read-answer : (said : TrailerRef → Said) {r : TrailerRead} (room : ℕ)
-      → r ≡ trailerRead at (take (at .end - at .«value_start») (drop (at .«value_start») body)) room
-      → saidOf said r ≡ judged (noRoom (length (writtenOf (rawValue t))) room ∷ []) (said (recordOf t))
-  read-answer said room q =
-      let read : trailerRead at (take (at .end - at .«value_start») (drop (at .«value_start») body)) room ≡ readOf t room =
+  pub read-answer : (said : TrailerRef → Said) {r : TrailerRead} (line room : ℕ)
+      → r ≡ trailerRead line at (take (at .end - at .«value_start») (drop (at .«value_start») body)) room
+      → saidOf said r ≡ judged (noRoom (length (writtenOf (rawValue t))) room ∷ []) (said (recordOf line t))
+  read-answer said line room q =
+      let read : trailerRead line at (take (at .end - at .«value_start») (drop (at .«value_start») body)) room ≡ readOf line t room =
       rw (raw-is w e, e, w .ending-is) in
-      ap (saidOf said) (q ∙ read) ∙ read-said said t room
+      ap (saidOf said) (q ∙ read) ∙ read-said said line t room
 
   pub read-left : (out : List ℕ) {left : List ℕ} (values : List ℕ)
       → left ≡ fitted (writtenOf (take (at .end - at .«value_start») (drop (at .«value_start») body))) out

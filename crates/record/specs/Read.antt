@@ -11,13 +11,13 @@ use Rattle.rules.specs.declared.Places.{Places}
 use Rattle.rules.specs.declared.Refusal.{Refusal}
 use Rattle.record.specs.declared.TrailerRead.{TrailerRead}
 
--- by its places and its raw value, which ends as the trailer's last line does
-abbrev pub trailerRead : Places → List ℕ → ℕ → TrailerRead
-trailerRead at raw room =
+-- by its line's number, its places and its raw value, which ends as the trailer's last line does
+abbrev pub trailerRead : ℕ → Places → List ℕ → ℕ → TrailerRead
+trailerRead line at raw room =
     if ltb room (length (writtenOf raw)) then TrailerRead.Refused (Refusal.NoRoom (length (writtenOf raw)))
-    else TrailerRead.Trailer (recordAt at raw (ending raw))
+    else TrailerRead.Trailer (recordAt line at raw (ending raw))
 
-abbrev pub readOf : Trailer → ℕ → TrailerRead
-readOf t room =
+abbrev pub readOf : ℕ → Trailer → ℕ → TrailerRead
+readOf line t room =
     if ltb room (length (writtenOf (rawValue t))) then TrailerRead.Refused (Refusal.NoRoom (length (writtenOf (rawValue t))))
-    else TrailerRead.Trailer (recordOf t)
+    else TrailerRead.Trailer (recordOf line t)

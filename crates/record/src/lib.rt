@@ -18,11 +18,11 @@ pub enum TrailerRead {
     Refused(Refusal),
 }
 
-// The record of the trailer that stands at the places `at` of `body`. A folded value is written to the front of `out`. The bytes
-// behind the colon end as the trailer's last line does.
-pub fn read_trailer(body: &[u8], at: Places, out: &mut [u8]) -> TrailerRead
+// The record of the trailer that stands at the places `at` of `body`, on the line with the number `line`. A folded value is written
+// to the front of `out`. The bytes behind the colon end as the trailer's last line does.
+pub fn read_trailer(body: &[u8], at: Places, line: usize, out: &mut [u8]) -> TrailerRead
     requires { ⌜ (at .«value_start» ≤ at .end) × (at .end ≤ length (now body)) ⌝ }
-    ensures { λ r. ⌜ r ≡ trailerRead at (take (at .end - at .«value_start») (drop (at .«value_start») (now (body .entry)))) (length (now (out .entry))) ⌝ }
+    ensures { λ r. ⌜ r ≡ trailerRead line at (take (at .end - at .«value_start») (drop (at .«value_start») (now (body .entry)))) (length (now (out .entry))) ⌝ }
     ensures { λ _. ⌜ now (out .exit) ≡ fitted (writtenOf (take (at .end - at .«value_start») (drop (at .«value_start») (now (body .entry))))) (now (out .entry)) ⌝ }
 {
     let from = at.value_start;
@@ -37,6 +37,7 @@ pub fn read_trailer(body: &[u8], at: Places, out: &mut [u8]) -> TrailerRead
             },
             value,
             ending,
+            line,
         }),
         ValueFound::Refused(refusal) => TrailerRead::Refused(refusal),
     }

@@ -1,6 +1,7 @@
 // The port's answers about an input, each held to what the list has at a place. The input is taken as a message, as a
 // body and as a token. Each function answers the place behind the answer, if the two agree.
 ghost use Prim.Native.Nat.{_≤_};
+use body::body_trailers;
 use body::find_trailer;
 use body::is_acked_by;
 use body::is_assisted_by;
@@ -64,7 +65,7 @@ pub fn answer_agrees(
         2 => message_summary_agrees(list, place, input, out),
         3 => message_trailers_agree(list, place, input, out),
         4 => expect_number(list, place, start_of(input)),
-        5 => walk_agrees(list, place, input, start_of(input), Kind::All, out),
+        5 => trailers_agree(list, place, input, Kind::All, out),
         6 => filters_agree(list, place, input, out),
         7 => blocks_agree(list, place, input),
         8 => lookup_agrees(list, place, input, out),
@@ -208,20 +209,20 @@ fn walk_agrees(
     list: &[u8],
     place: Place,
     input: &[u8],
-    from: usize,
+    from: Cursor,
     kind: Kind,
     out: &mut [u8],
 ) -> Place {
     let mut place = place;
-    let mut at = from;
+    let mut cursor = from;
     let mut steps = 0;
     while steps <= input.len() {
-        match next_trailer_of(input, Cursor { at }, kind, out) {
+        match next_trailer_of(input, cursor, kind, out) {
             TrailerStep::Trailer { found, next } => {
                 place = expect_number(list, place, MORE);
                 place = trailer_agrees(list, place, input, out, found);
-                at = next.at;
-                place = expect_number(list, place, at);
+                cursor = next;
+                place = expect_number(list, place, next.at);
             }
             TrailerStep::End(_) => return expect_number(list, place, NO_MORE),
             TrailerStep::Refused(_) => return Place::Off,
@@ -237,7 +238,15 @@ fn message_trailers_agree(list: &[u8], place: Place, message: &[u8], out: &mut [
         return Place::Off;
     };
     let place = expect_number(list, place, cursor.at);
-    walk_agrees(list, place, message, cursor.at, Kind::All, out)
+    walk_agrees(list, place, message, cursor, Kind::All, out)
+}
+
+// The walk of a body's trailers of a kind.
+fn trailers_agree(list: &[u8], place: Place, body: &[u8], kind: Kind, out: &mut [u8]) -> Place {
+    let WalkFound::From(cursor) = body_trailers(body) else {
+        return Place::Off;
+    };
+    walk_agrees(list, place, body, cursor, kind, out)
 }
 
 // Where the trailer block of a body starts.
@@ -250,12 +259,11 @@ fn start_of(body: &[u8]) -> usize {
 
 // The walk of a body's trailers through each of the five filters.
 fn filters_agree(list: &[u8], place: Place, body: &[u8], out: &mut [u8]) -> Place {
-    let start = start_of(body);
-    let place = walk_agrees(list, place, body, start, Kind::SignedOffBy, out);
-    let place = walk_agrees(list, place, body, start, Kind::CoAuthoredBy, out);
-    let place = walk_agrees(list, place, body, start, Kind::AssistedBy, out);
-    let place = walk_agrees(list, place, body, start, Kind::Attribution, out);
-    walk_agrees(list, place, body, start, Kind::Author, out)
+    let place = trailers_agree(list, place, body, Kind::SignedOffBy, out);
+    let place = trailers_agree(list, place, body, Kind::CoAuthoredBy, out);
+    let place = trailers_agree(list, place, body, Kind::AssistedBy, out);
+    let place = trailers_agree(list, place, body, Kind::Attribution, out);
+    trailers_agree(list, place, body, Kind::Author, out)
 }
 
 // The walk of a body's blocks: where each one's message ends, and where its trailers do.

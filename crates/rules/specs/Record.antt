@@ -52,13 +52,14 @@ placesOf t = record {
   end = endOf t;
 }
 
--- its token, where its value stands, and how its last line ended
-abbrev pub recordAt : Places → List ℕ → Ending → TrailerRef
-recordAt p raw ending = record {
+-- its token, where its value stands, how its last line ended, and the number of the line where it starts
+abbrev pub recordAt : ℕ → Places → List ℕ → Ending → TrailerRef
+recordAt line p raw ending = record {
   token = part (p .start) (p .«token_end»);
   value = valueOf (p .«value_start») raw;
   ending = ending;
+  line = line;
 }
 
-abbrev pub recordOf : Trailer → TrailerRef
-recordOf t = recordAt (placesOf t) (rawValue t) (endingOf t)
+abbrev pub recordOf : ℕ → Trailer → TrailerRef
+recordOf line t = recordAt line (placesOf t) (rawValue t) (endingOf t)

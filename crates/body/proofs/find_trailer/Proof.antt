@@ -15,7 +15,7 @@ use Rattle.rules.specs.declared.TrailerFound.{TrailerFound}
 use Rattle.trailer.specs.declared.walk.NextTrailer.{NextTrailer}
 use Rattle.filter.specs.Lookup.{lookedUp}
 use Rattle.body.specs.Body.{findAnswer, findBuffer}
-use Rattle.body.proofs.Calls.{find-none, find-none-left, find-fits, find-found, find-left}
+use Rattle.body.proofs.Calls.{find-none, find-none-left, find-fits, find-found, find-left, start-inside}
 use Rattle.body.proofs.find_trailer.Statement.{statement}
 use Rattle.body.proofs.find_trailer.Tie as tie
 
@@ -65,9 +65,15 @@ returns-3 c =
       find-none-left (a .body .now) (a .name .now) (short n) (brief n) q (a .out .now),
     )
 
+right-cursor-requires : tie.Need-right-cursor-requires
+right-cursor-requires c κs =
+    let t = c .before in let n = t .before .before in
+    let a = start (n .before) .args in
+    start-inside (a .body .now) (a .name .now) (short n) (brief n) (found n (t .places .given .1))
+
 read-trailer-requires : tie.Need-read-trailer-requires
 read-trailer-requires c κs =
-    let t = c .before .before in let n = t .before .before in
+    let m = c .before in let t = m .before .before in let n = t .before .before in
     let a = start (n .before) .args in
     find-fits (a .body .now) (a .name .now) (short n) (brief n) (found n (t .places .given .1))
 
@@ -78,14 +84,14 @@ enum-known-read-2 : tie.Need-enum-known-read-2
 enum-known-read-2 c = search needs
 
 -- what is said of the record of the trailer that was found, and what is left in the buffer
-answered : (r : tie.After-read-trailer) → let t = r .before .before .before in let a = start (t .before .before .before) .args in
+answered : (r : tie.After-read-trailer) → let t = r .before .before .before .before in let a = start (t .before .before .before) .args in
     (saidOf (λ x. trailerFoundSays (TrailerFound.Trailer x)) (r .read-trailer .result) ≡ findAnswer (a .body .now) (a .name .now) (length (a .out .now)))
-    × (r .read-trailer .last .1 .1 .0 ≡ findBuffer (a .body .now) (a .name .now) (a .out .now))
+    × (r .read-trailer .last .1 .1 .1 .0 ≡ findBuffer (a .body .now) (a .name .now) (a .out .now))
 answered r =
-    let t = r .before .before .before in let n = t .before .before in
+    let m = r .before .before in let t = m .before .before in let n = t .before .before in
     let a = start (n .before) .args in
     let q = found n (t .places .given .1) in (
-      find-found (a .body .now) (a .name .now) (short n) (brief n) q (length (a .out .now)) (r .read-trailer .ensures .0),
+      find-found (a .body .now) (a .name .now) (short n) (brief n) q (m .right-cursor .ensures) (length (a .out .now)) (r .read-trailer .ensures .0),
       find-left (a .body .now) (a .name .now) (short n) (brief n) q (a .out .now) (r .read-trailer .ensures .1),
     )
 
@@ -116,6 +122,7 @@ find-trailer-spec =
     enum-known-places
     enum-told
     returns-3
+    right-cursor-requires
     read-trailer-requires
     enum-known-read
     enum-known-read-2

@@ -5,7 +5,7 @@ use borrow.Author.Tests.{lt-ltb, le-ltb}
 use lib.ListN.{length}
 use Rattle.numbers.proofs.Crossing.{crosses}
 use Rattle.numbers.specs.declared.Asked.{Asked}
-use Rattle.exports.specs.ByKind.{stepLeaves, stepOf}
+use Rattle.exports.specs.ByKind.{cursor, stepLeaves, stepOf}
 use Rattle.exports.proofs.sluicepod_next_trailer.Statement.{statement}
 use Rattle.exports.proofs.sluicepod_next_trailer.Tie as tie
 
@@ -39,8 +39,8 @@ returns-2 c =
     let k = i .before .before in
     let a = k .before .before .args in
     let none = sym (t .enum-told .given .1) ∙ n .kind-of .ensures in
-    let q = crosses (a .result .now) (ap (λ (k : Asked). stepOf k (a .body .now) (a .at) (length (a .out .now))) none) (p .put .ensures) in
-    (q .0, (q .1, rw (le-ltb _ _ (i .if1 .left)) (ap (λ (k : Asked). stepLeaves k (a .body .now) (a .at) (a .out .now)) none)))
+    let q = crosses (a .result .now) (ap (λ (k : Asked). stepOf k (a .body .now) (cursor (a .at) (a .line)) (length (a .out .now))) none) (p .put .ensures) in
+    (q .0, (q .1, rw (le-ltb _ _ (i .if1 .left)) (ap (λ (k : Asked). stepLeaves k (a .body .now) (cursor (a .at) (a .line)) (a .out .now)) none)))
 
 next-trailer-of-requires : tie.Need-next-trailer-of-requires
 next-trailer-of-requires c κs = search needs
@@ -66,8 +66,8 @@ returns-3 c =
     let a = k .before .before .args in
     let asked = sym (g .kind .given .1) ∙ n .kind-of .ensures in
     let e = s .next-trailer-of .ensures in
-    let q = crosses (a .result .now) (e .0 ∙ ap (λ (k : Asked). stepOf k (a .body .now) (a .at) (length (a .out .now))) asked) (p .put-step .ensures) in
-    (q .0, (q .1, rw (le-ltb _ _ (i .if1 .left)) (e .1 ∙ ap (λ (k : Asked). stepLeaves k (a .body .now) (a .at) (a .out .now)) asked)))
+    let q = crosses (a .result .now) (e .0 ∙ ap (λ (k : Asked). stepOf k (a .body .now) (cursor (a .at) (a .line)) (length (a .out .now))) asked) (p .put-step .ensures) in
+    (q .0, (q .1, rw (le-ltb _ _ (i .if1 .left)) (e .1 ∙ ap (λ (k : Asked). stepLeaves k (a .body .now) (cursor (a .at) (a .line)) (a .out .now)) asked)))
 
 pub sluicepod-next-trailer-spec : {M : Type 1} → statement M
 sluicepod-next-trailer-spec =

@@ -5,22 +5,19 @@ use Prim.Native.Nat.{ℕ, _+_, _-_, _≤_}
 use native.Mathlib.Omega.{arith}
 use borrow.Author.Needs.{needs}
 use borrow.Author.Tests.{lt-ltb, le-ltb}
-use lib.ListN.{length, take, drop, length-drop}
-use Rattle.rules.proofs.Paragraph.{start-within}
+use lib.ListN.{length, take, drop}
 use Rattle.rules.proofs.Title.{body-fits}
 use Rattle.rules.specs.Paragraph.{blockStart}
-use Rattle.rules.specs.Title.{bodyStart, body}
+use Rattle.rules.specs.Title.{bodyStart}
 use Rattle.rules.proofs.Parts.{rest}
 use Rattle.message.specs.Message.{walkStart}
+use Rattle.message.proofs.Started.{walk-fits}
 use Rattle.message.proofs.message_trailers.Statement.{statement}
 use Rattle.message.proofs.message_trailers.Tie as tie
 
 -- the body's start and the block's start in the body
 walk-at : (m : List ℕ) (s k : ℕ) → s ≡ bodyStart m → k ≡ blockStart (take (length m - s) (drop s m)) → s + k ≡ walkStart m .at
 walk-at m s k p q = rw (q, rest m s, p)
-
-walk-fits : (m : List ℕ) → walkStart m .at ≤ length m
-walk-fits m = omega (arith, body-fits m, start-within (body m), length-drop (bodyStart m) m)
 
 returns : tie.Need-returns
 returns c = simp (lt-ltb _ _ (c .if1 .taken))
@@ -54,8 +51,11 @@ walks b =
 add-at : tie.Need-add-at
 add-at c = let t = c .before .before in omega (arith, walks c, walk-fits (t .before .before .before .args .message .now))
 
+right-cursor-requires : tie.Need-right-cursor-requires
+right-cursor-requires c κs = let t = c .before .before in omega (arith, walks c, walk-fits (t .before .before .before .args .message .now))
+
 returns-2 : tie.Need-returns-2
-returns-2 c = simp (le-ltb _ _ (c .before .before .before .if1 .left), walks c)
+returns-2 c = let b = c .before in simp (le-ltb _ _ (b .before .before .before .if1 .left), c .right-cursor .ensures, walks b)
 
 pub message-trailers-spec : {M : Type 1} → statement M
 message-trailers-spec =
@@ -68,4 +68,5 @@ message-trailers-spec =
     part-trailer-block-start-end
     trailer-block-start-requires
     add-at
+    right-cursor-requires
     returns-2)

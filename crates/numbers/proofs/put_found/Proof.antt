@@ -51,8 +51,8 @@ returns c =
     let t = g .0 .0 in
     let how = n .ending-number .result in
     crosses (m .before .before .before .args .result .now)
-    (ap (λ (vs : List ℕ). says 0 (t .token .start ∷ t .token .end ∷ (vs ++ (how ∷ [])))) (a .place-of .ensures)
-    ∙ ap (λ (h : ℕ). says 0 (trailerSays t ++ (h ∷ []))) (n .ending-number .ensures) ∙ ap trailerFoundSays (sym (g .1)))
+    (ap (λ (vs : List ℕ). says 0 (t .token .start ∷ t .token .end ∷ (vs ++ (how ∷ t .line ∷ [])))) (a .place-of .ensures)
+    ∙ ap (λ (h : ℕ). says 0 (trailerSays t ++ (h ∷ t .line ∷ []))) (n .ending-number .ensures) ∙ ap trailerFoundSays (sym (g .1)))
     (p .put .ensures)
 
 same-length-2 : tie.Need-same-length-2

@@ -51,8 +51,8 @@ returns c =
     let t = g .0 .0 in
     let how = n .ending-number .result in
     crosses (m .before .before .before .args .result .now)
-    (ap (λ (vs : List ℕ). says 0 (t .token .start ∷ t .token .end ∷ (vs ++ (g .0 .1 .0 .at ∷ how ∷ [])))) (a .place-of .ensures)
-    ∙ ap (λ (h : ℕ). says 0 (trailerSays t ++ (g .0 .1 .0 .at ∷ h ∷ []))) (n .ending-number .ensures) ∙ ap trailerStepSays (sym (g .1)))
+    (ap (λ (vs : List ℕ). says 0 (t .token .start ∷ t .token .end ∷ (vs ++ (g .0 .1 .0 .at ∷ how ∷ t .line ∷ g .0 .1 .0 .line ∷ [])))) (a .place-of .ensures)
+    ∙ ap (λ (h : ℕ). says 0 (trailerSays t ++ (g .0 .1 .0 .at ∷ h ∷ t .line ∷ g .0 .1 .0 .line ∷ []))) (n .ending-number .ensures) ∙ ap trailerStepSays (sym (g .1)))
     (p .put .ensures)
 
 same-length-2 : tie.Need-same-length-2

@@ -36,18 +36,18 @@ same-length c = search needs
 
 -- the ending and the answer that were read are those of the raw value
 record-is : (r : tie.After-read-value) → let t = r .before .before in let a = t .before .before .before .before .args in
-    withValue (a .at) (t .trim-line-ending .result .ending) (r .read-value .result)
-    ≡ trailerRead (a .at) (take (a .at .end - a .at .«value_start») (drop (a .at .«value_start») (a .body .now))) (length (a .out .now))
+    withValue (a .line) (a .at) (t .trim-line-ending .result .ending) (r .read-value .result)
+    ≡ trailerRead (a .line) (a .at) (take (a .at .end - a .at .«value_start») (drop (a .at .«value_start») (a .body .now))) (length (a .out .now))
 record-is r =
     let t = r .before .before in let a = t .before .before .before .before .args in
     let raw = take (a .at .end - a .at .«value_start») (drop (a .at .«value_start») (a .body .now)) in
-    ap (λ (e : Ending). withValue (a .at) e (r .read-value .result)) (t .trim-line-ending .ensures .1)
-    ∙ ap (withValue (a .at) (ending raw)) (r .read-value .ensures .0) ∙ with-value (a .at) raw (length (a .out .now))
+    ap (λ (e : Ending). withValue (a .line) (a .at) e (r .read-value .result)) (t .trim-line-ending .ensures .1)
+    ∙ ap (withValue (a .line) (a .at) (ending raw)) (r .read-value .ensures .0) ∙ with-value (a .line) (a .at) raw (length (a .out .now))
 
 returns : tie.Need-returns
 returns c =
     let m = c .before .before in let r = m .before .before .before in
-    (ap (withValue _ _) (sym (c .before .read .given .1)) ∙ record-is r, r .read-value .ensures .1)
+    (ap (withValue _ _ _) (sym (c .before .read .given .1)) ∙ record-is r, r .read-value .ensures .1)
 
 same-length-2 : tie.Need-same-length-2
 same-length-2 c = search needs
@@ -55,7 +55,7 @@ same-length-2 c = search needs
 returns-2 : tie.Need-returns-2
 returns-2 c =
     let m = c .before .before in let r = m .before .before .before in
-    (ap (withValue _ (r .before .before .trim-line-ending .result .ending)) (sym (c .before .read2 .given .1)) ∙ record-is r, r .read-value .ensures .1)
+    (ap (withValue _ _ (r .before .before .trim-line-ending .result .ending)) (sym (c .before .read2 .given .1)) ∙ record-is r, r .read-value .ensures .1)
 
 pub read-trailer-spec : {M : Type 1} → statement M
 read-trailer-spec =

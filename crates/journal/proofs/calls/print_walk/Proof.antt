@@ -8,10 +8,10 @@ use Rattle.journal.proofs.calls.print_walk.Statement.{statement}
 use Rattle.journal.proofs.calls.print_walk.Tie as tie
 
 abbrev Inv-loop : tie.InvT-loop
-Inv-loop message from buffer₀ at₀ steps₀ buffer at steps = length buffer ≡ length buffer₀
+Inv-loop message buffer₀ cursor₀ steps₀ buffer cursor steps = length buffer ≡ length buffer₀
 
 abbrev μ-loop : tie.MeasureT-loop
-μ-loop message from buffer₀ at₀ steps₀ buffer at steps = suc (length message) - steps
+μ-loop message buffer₀ cursor₀ steps₀ buffer cursor steps = suc (length message) - steps
 
 pub print-walk-spec : {M : Type 1} → statement M
 print-walk-spec =

@@ -8,10 +8,10 @@ use Rattle.replay.proofs.answers.walk_agrees.Statement.{statement}
 use Rattle.replay.proofs.answers.walk_agrees.Tie as tie
 
 abbrev Inv-loop : tie.InvT-loop
-Inv-loop list input from kind out₀ place₀ at₀ steps₀ out place at steps = length out ≡ length out₀
+Inv-loop list input kind out₀ place₀ cursor₀ steps₀ out place cursor steps = length out ≡ length out₀
 
 abbrev μ-loop : tie.MeasureT-loop
-μ-loop list input from kind out₀ place₀ at₀ steps₀ out place at steps = suc (length input) - steps
+μ-loop list input kind out₀ place₀ cursor₀ steps₀ out place cursor steps = suc (length input) - steps
 
 pub walk-agrees-spec : {M : Type 1} → statement M
 walk-agrees-spec =
