@@ -1,5 +1,6 @@
 // The reading of one message, printed: where a divider stands, title, body, each line of the last paragraph with its kind, what is
-// counted, the block start and the blocks, and who signed. Places below the body's are counted in it.
+// counted, the block start and the blocks, and the trailers with the numbers of their lines and who signed. Places below the body's
+// are counted in it, lines in the message.
 ghost use mathlib.Core.Path.{_≡_};
 ghost use Prim.Native.Nat.{_*_, _^_, _<_, _≤_};
 ghost use lib.ListN.{length};
@@ -14,7 +15,7 @@ use paragraph::is_recognized_prefix;
 use paragraph::last_paragraph;
 use paragraph::trailer_block_start;
 use rules::Ending;
-use signers::print_signers;
+use signers::print_trailers;
 use text::line::is_blank_line;
 use text::line::is_indented;
 use text::line::line_len;
@@ -103,7 +104,7 @@ fn print_reading(message: &[u8])
     let body_start = places.body_start;
     print_title_and_body(places.title_end, body_start, message.len());
     print_body(&message[body_start..]);
-    print_signers(message);
+    print_trailers(message);
 }
 
 // Prints where the title and the body of a message stand that has `len` bytes.

@@ -32,8 +32,8 @@ part-print-body-end c = search needs
 print-body-requires : tie.Need-print-body-requires
 print-body-requires c κs = search needs
 
-print-signers-requires : tie.Need-print-signers-requires
-print-signers-requires c κs = search needs
+print-trailers-requires : tie.Need-print-trailers-requires
+print-trailers-requires c κs = search needs
 
 returns : tie.Need-returns
 returns c = search needs
@@ -49,5 +49,5 @@ print-reading-spec =
     part-print-body-start
     part-print-body-end
     print-body-requires
-    print-signers-requires
+    print-trailers-requires
     returns)

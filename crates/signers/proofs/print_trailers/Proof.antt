@@ -1,4 +1,4 @@
--- `signers::print_signers` is safe and ends: each trailer moves the cursor on. Assumes nothing.
+-- `signers::print_trailers` is safe and ends: each trailer moves the cursor on. Assumes nothing.
 use mathlib.Core.List.{List}
 use mathlib.Core.Path.{_≡_}
 use Prim.Native.Nat.{ℕ, _-_, _≤_}
@@ -6,8 +6,8 @@ use native.Mathlib.Omega.{arith}
 use borrow.Author.Needs.{needs}
 use lib.ListN.{length}
 use Rattle.printing.proofs.Step.{Found, found}
-use Rattle.signers.proofs.print_signers.Statement.{statement}
-use Rattle.signers.proofs.print_signers.Tie as tie
+use Rattle.signers.proofs.print_trailers.Statement.{statement}
+use Rattle.signers.proofs.print_trailers.Tie as tie
 
 abbrev Inv-loop : tie.InvT-loop
 Inv-loop message buffer₀ cursor₀ buffer cursor = length buffer ≡ 65536
@@ -42,23 +42,23 @@ next-trailer-requires c κs = search needs
 enum-known-found : tie.Need-enum-known-found Inv-loop μ-loop
 enum-known-found c = search needs
 
-slice-aggregate-print-signer : tie.Need-slice-aggregate-print-signer Inv-loop μ-loop
-slice-aggregate-print-signer c = search needs
+slice-aggregate-print-trailer : tie.Need-slice-aggregate-print-trailer Inv-loop μ-loop
+slice-aggregate-print-trailer c = search needs
 
-print-signer-requires : tie.Need-print-signer-requires Inv-loop μ-loop
-print-signer-requires c κs = search needs
+print-trailer-requires : tie.Need-print-trailer-requires Inv-loop μ-loop
+print-trailer-requires c κs = search needs
 
 -- the end of a turn, where the step has found a trailer
-moved : (c : tie.After-print-signer Inv-loop μ-loop) →
+moved : (c : tie.After-print-trailer Inv-loop μ-loop) →
     let known = c .before .before .before in
     let step = known .before .before .before in
     let l = step .before .before in
-    Found (l .before .before .before .before .before .before .before .args .message .now) (l .loop .cursor .at) (known .found .given .0 .1 .0 .at)
+    Found (l .before .before .before .before .before .before .before .args .message .now) (l .loop .cursor) (known .found .given .0 .1 .0)
 moved c =
     let known = c .before .before .before in
     let step = known .before .before .before in
     let l = step .before .before in
-    found (l .before .before .before .before .before .before .before .args .message .now) (l .loop .cursor .at) (length (l .loop .buffer))
+    found (l .before .before .before .before .before .before .before .args .message .now) (l .loop .cursor) (length (l .loop .buffer))
     (step .next-trailer .result) (known .found .given .0 .0) (known .found .given .0 .1 .0) (known .found .given .1)
     (step .next-trailer .ensures .0)
 
@@ -71,8 +71,8 @@ loop-again c = search needs
 returns-2 : tie.Need-returns-2 Inv-loop μ-loop
 returns-2 c = search needs
 
-pub print-signers-spec : {M : Type 1} → statement M
-print-signers-spec =
+pub print-trailers-spec : {M : Type 1} → statement M
+print-trailers-spec =
     tie.close
     (tie.spec
     Inv-loop
@@ -86,8 +86,8 @@ print-signers-spec =
     slice-aggregate-next-trailer
     next-trailer-requires
     enum-known-found
-    slice-aggregate-print-signer
-    print-signer-requires
+    slice-aggregate-print-trailer
+    print-trailer-requires
     loop-less
     loop-again
     returns-2)
