@@ -11,7 +11,8 @@
  * Code. Each call returns a code:
  *     SLUICEPOD_OK             an answer; the end of a walk, "no body" and "no such trailer" are answers
  *     SLUICEPOD_TOO_LONG       an input is over the limit
- *     SLUICEPOD_BAD_PLACE      a position is past the input, or a range does not fit in it
+ *     SLUICEPOD_BAD_PLACE      a position is past the input, a range does not fit in it, or a line's number cannot be that
+ *                              of the position
  *     SLUICEPOD_NO_ROOM        `out` is shorter than what is to be written; the exact length needed is the one value
  *     SLUICEPOD_BAD_TOKEN      a token that is not letters, digits or hyphens, at least one
  *     SLUICEPOD_BAD_VALUE      a value that has an LF, or white space at an end
@@ -43,6 +44,19 @@
  * enough. Where a value stands is given by three values, its place:
  *     0, start, end            a part of the input
  *     1, start, end            a part of `out`
+ *
+ * Lines. Every trailer comes with the number of the line where it starts. Lines are counted from 1: the number of a
+ * position is one more than the LFs before it; a CR ends no line without its LF. A message's lines are counted with those
+ * of its title, a bare body's from its first line. A walk by steps counts on from the number that it is handed, so a
+ * cursor of that walk has two numbers: a position, and the number of its line. sluicepod_message_trailers,
+ * sluicepod_body_trailers and sluicepod_cursor_at give right ones. A step handed another number than the right one
+ * answers with numbers that are off by as much, and is right in all else.
+ *
+ * History. sluicepod_next_trailer takes a parameter more than it did, `line` behind `at`, and answers with two values
+ * more behind those it had, at the walk's end with one. A caller of the old call hands it the number from
+ * sluicepod_message_trailers or sluicepod_body_trailers and then the one from each step; one that needs no numbers can
+ * hand it 1 each time. Whoever told the walk's end by its one value now tells it by two. sluicepod_find_trailer and
+ * sluicepod_message_trailers have one value more behind those they had.
  */
 #ifndef SLUICEPOD_H
 #define SLUICEPOD_H
@@ -121,21 +135,34 @@ uint32_t sluicepod_message_summary(const uint8_t *message, size_t message_len, u
  * that is not blank, whether or not there is a block, and SLUICEPOD_NO_ENDING where every line is blank. */
 uint32_t sluicepod_block_start(const uint8_t *body, size_t body_len, size_t *result, size_t result_len);
 
-/* Where the walk of a message's trailers begins: hand it to sluicepod_next_trailer, with the message as the body.
- * Values: the position; the message's length where there is no body or no block. */
+/* Where the walk of a message's trailers begins: hand it to sluicepod_next_trailer, with the message as the body. The LFs
+ * above are counted, so the time grows with the message's length.
+ * Values: the position, which is the message's length where there is no body or no block; the number of its line in the
+ * message, the title's lines included. */
 uint32_t sluicepod_message_trailers(const uint8_t *message, size_t message_len, size_t *result, size_t result_len);
 
-/* The next trailer from the position `at` on whose token is of the kind. The walk of a body begins at its block's start.
+/* Where the walk of a body's trailers begins: hand it to sluicepod_next_trailer. The LFs above are counted here too.
+ * Values: the position, which is the block's start, and the body's length where there is no block; the number of its line
+ * in the body. */
+uint32_t sluicepod_body_trailers(const uint8_t *body, size_t body_len, size_t *result, size_t result_len);
+
+/* The cursor of the position `at`, anywhere in a line: for a walk that begins elsewhere, as at the trailers of a block.
+ * Values: the position; the number of its line. */
+uint32_t sluicepod_cursor_at(const uint8_t *input, size_t input_len, size_t at, size_t *result, size_t result_len);
+
+/* The next trailer from the position `at` on whose token is of the kind. `line` is the number of that position's line; 0
+ * and one over `at` + 1 are a BAD_PLACE. The walk of a body begins where sluicepod_body_trailers says.
  * Values: the token's start, the token's end, the value's place (three), the position to go on from, an enum
- * sluicepod_ending, that of the trailer's last line; at the end of the walk the position alone, which is the body's
- * length. */
-uint32_t sluicepod_next_trailer(const uint8_t *body, size_t body_len, size_t at, uint32_t kind, uint8_t *out,
-                                size_t out_len, size_t *result, size_t result_len);
+ * sluicepod_ending, that of the trailer's last line, the number of the line where the trailer starts, the number of the
+ * line to go on from (nine); at the end of the walk the position, which is the body's length, and the number of its line
+ * (two). */
+uint32_t sluicepod_next_trailer(const uint8_t *body, size_t body_len, size_t at, size_t line, uint32_t kind,
+                                uint8_t *out, size_t out_len, size_t *result, size_t result_len);
 
 /* The last trailer of a body whose token is `name`, ASCII case aside: of an offload that was retried, the state that
  * holds. An empty name is found nowhere. Only that trailer's value is written, and only for it room is needed.
  * Values: the token's start, the token's end, the value's place (three), an enum sluicepod_ending, that of the trailer's
- * last line; none where there is no such trailer. */
+ * last line, the number of the line where the trailer starts (seven); none where there is no such trailer. */
 uint32_t sluicepod_find_trailer(const uint8_t *body, size_t body_len, const uint8_t *name, size_t name_len,
                                 uint8_t *out, size_t out_len, size_t *result, size_t result_len);
 

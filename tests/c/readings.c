@@ -70,7 +70,7 @@ static void reading_refusals(void) {
         EXPECT(sluicepod_title_and_body_in(input, len, reading, RESULT), SLUICEPOD_OK, "", 1, reading ? 0 : len);
         EXPECT(sluicepod_title_and_body_in(input, len + 1, reading, RESULT), SLUICEPOD_TOO_LONG, "", 0);
         EXPECT(sluicepod_message_summary_in(input, len + 1, reading, OUT, RESULT), SLUICEPOD_TOO_LONG, "", 0);
-        EXPECT(sluicepod_message_trailers_in(input, len, reading, RESULT), SLUICEPOD_OK, "", 1, reading ? 0 : len);
+        EXPECT(sluicepod_message_trailers_in(input, len, reading, RESULT), SLUICEPOD_OK, "", 2, reading ? 0 : len, reading ? 1 : 2);
         EXPECT(sluicepod_message_trailers_in(input, len + 1, reading, RESULT), SLUICEPOD_TOO_LONG, "", 0);
     }
     EXPECT(sluicepod_message_summary_in(input, len, SLUICEPOD_WHOLE, OUT, RESULT), SLUICEPOD_NO_ROOM, "", 1, len);

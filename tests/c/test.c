@@ -1,5 +1,5 @@
-/* The calls of include/sluicepod.h, through the archive: document 01's cases by their numbers, line ends, a walk, the
- * refusals, commit objects, both readings of a message, and the closing note.
+/* The calls of include/sluicepod.h, through the archive: document 01's cases by their numbers, line ends, line
+ * numbers, a walk, the refusals, commit objects, both readings of a message, and the closing note.
  * Each check gives a call, the code that it must return, what it must write to the front of `out`, and what to the front
  * of `result`: how many values there are, and the values. All behind that must be as it was. */
 #include <stdio.h>
@@ -99,29 +99,29 @@ static void starts_and_blocks(void) {
 
 static void trailers(void) {
     /* 7: one trailer, then the end; 8 and 10: none */
-    EXPECT(sluicepod_next_trailer(BYTES("Signed-off-by: a\nx\ny\nz"), 0, SLUICEPOD_ALL, OUT, RESULT), SLUICEPOD_OK, "", 7, 0, 13, 0, 15, 16, 17, SLUICEPOD_LF);
-    EXPECT(sluicepod_next_trailer(BYTES("Signed-off-by: a\nx\ny\nz"), 17, SLUICEPOD_ALL, OUT, RESULT), SLUICEPOD_OK, "", 1, 22);
-    EXPECT(sluicepod_next_trailer(BYTES("Signed-off-by: a\nx\ny\nz\nw"), 24, SLUICEPOD_ALL, OUT, RESULT), SLUICEPOD_OK, "", 1, 24);
-    EXPECT(sluicepod_next_trailer(BYTES("(cherry picked from commit 1)"), 0, SLUICEPOD_ALL, OUT, RESULT), SLUICEPOD_OK, "", 1, 29);
+    EXPECT(sluicepod_next_trailer(BYTES("Signed-off-by: a\nx\ny\nz"), 0, 1, SLUICEPOD_ALL, OUT, RESULT), SLUICEPOD_OK, "", 9, 0, 13, 0, 15, 16, 17, SLUICEPOD_LF, 1, 2);
+    EXPECT(sluicepod_next_trailer(BYTES("Signed-off-by: a\nx\ny\nz"), 17, 2, SLUICEPOD_ALL, OUT, RESULT), SLUICEPOD_OK, "", 2, 22, 4);
+    EXPECT(sluicepod_next_trailer(BYTES("Signed-off-by: a\nx\ny\nz\nw"), 24, 5, SLUICEPOD_ALL, OUT, RESULT), SLUICEPOD_OK, "", 2, 24, 5);
+    EXPECT(sluicepod_next_trailer(BYTES("(cherry picked from commit 1)"), 0, 1, SLUICEPOD_ALL, OUT, RESULT), SLUICEPOD_OK, "", 2, 29, 1);
     /* 12: the vertical tab is no blank, so the value goes on */
     EXPECT(sluicepod_block_start(BYTES("A: b\n\t\v\n c"), RESULT), SLUICEPOD_OK, "", 2, 0, SLUICEPOD_NO_ENDING);
-    EXPECT(sluicepod_next_trailer(BYTES("A: b\n\t\v\n c"), 0, SLUICEPOD_ALL, OUT, RESULT), SLUICEPOD_OK, "b c", 7, 0, 1, 1, 0, 3, 10, SLUICEPOD_NO_ENDING);
+    EXPECT(sluicepod_next_trailer(BYTES("A: b\n\t\v\n c"), 0, 1, SLUICEPOD_ALL, OUT, RESULT), SLUICEPOD_OK, "b c", 9, 0, 1, 1, 0, 3, 10, SLUICEPOD_NO_ENDING, 1, 3);
     /* 13 */
-    EXPECT(sluicepod_next_trailer(BYTES("Acked-by : A"), 0, SLUICEPOD_ALL, OUT, RESULT), SLUICEPOD_OK, "", 7, 0, 8, 0, 11, 12, 12, SLUICEPOD_NO_ENDING);
-    EXPECT(sluicepod_next_trailer(BYTES(":x"), 0, SLUICEPOD_ALL, OUT, RESULT), SLUICEPOD_OK, "", 1, 2);
+    EXPECT(sluicepod_next_trailer(BYTES("Acked-by : A"), 0, 1, SLUICEPOD_ALL, OUT, RESULT), SLUICEPOD_OK, "", 9, 0, 8, 0, 11, 12, 12, SLUICEPOD_NO_ENDING, 1, 1);
+    EXPECT(sluicepod_next_trailer(BYTES(":x"), 0, 1, SLUICEPOD_ALL, OUT, RESULT), SLUICEPOD_OK, "", 2, 2, 1);
     /* by kind, by name, in a message */
-    EXPECT(sluicepod_next_trailer(BYTES("A: b\nSigned-off-by: c\nx\nD: e\n"), 0, SLUICEPOD_AUTHOR, OUT, RESULT), SLUICEPOD_OK, "", 7, 5, 18, 0, 20, 21, 22, SLUICEPOD_LF);
-    EXPECT(sluicepod_find_trailer(BYTES("A: b\nSigned-off-by: c\nx\nD: e\n"), BYTES("d"), OUT, RESULT), SLUICEPOD_OK, "", 6, 24, 25, 0, 27, 28, SLUICEPOD_LF);
-    EXPECT(sluicepod_find_trailer(BYTES("A: b\n\t\v\n c"), BYTES("a"), OUT, RESULT), SLUICEPOD_OK, "b c", 6, 0, 1, 1, 0, 3, SLUICEPOD_NO_ENDING);
+    EXPECT(sluicepod_next_trailer(BYTES("A: b\nSigned-off-by: c\nx\nD: e\n"), 0, 1, SLUICEPOD_AUTHOR, OUT, RESULT), SLUICEPOD_OK, "", 9, 5, 18, 0, 20, 21, 22, SLUICEPOD_LF, 2, 3);
+    EXPECT(sluicepod_find_trailer(BYTES("A: b\nSigned-off-by: c\nx\nD: e\n"), BYTES("d"), OUT, RESULT), SLUICEPOD_OK, "", 7, 24, 25, 0, 27, 28, SLUICEPOD_LF, 4);
+    EXPECT(sluicepod_find_trailer(BYTES("A: b\n\t\v\n c"), BYTES("a"), OUT, RESULT), SLUICEPOD_OK, "b c", 7, 0, 1, 1, 0, 3, SLUICEPOD_NO_ENDING, 1);
     EXPECT(sluicepod_find_trailer(BYTES("A: b"), BYTES(""), OUT, RESULT), SLUICEPOD_OK, "", 0);
     // K4: the last one speaks; the others write nothing and need no room.
     EXPECT(sluicepod_find_trailer(BYTES("Offload-state: partial\nOffload-state: complete\n"), BYTES("offload-state"), out, 0, RESULT),
-           SLUICEPOD_OK, "", 6, 23, 36, 0, 38, 46, SLUICEPOD_LF);
-    EXPECT(sluicepod_find_trailer(BYTES("A: 1\n 2\nA: 3"), BYTES("A"), out, 0, RESULT), SLUICEPOD_OK, "", 6, 8, 9, 0, 11, 12, SLUICEPOD_NO_ENDING);
+           SLUICEPOD_OK, "", 7, 23, 36, 0, 38, 46, SLUICEPOD_LF, 2);
+    EXPECT(sluicepod_find_trailer(BYTES("A: 1\n 2\nA: 3"), BYTES("A"), out, 0, RESULT), SLUICEPOD_OK, "", 7, 8, 9, 0, 11, 12, SLUICEPOD_NO_ENDING, 3);
     EXPECT(sluicepod_find_trailer(BYTES("A: 1\nA: 2\n 3\n"), BYTES("a"), out, 2, RESULT), SLUICEPOD_NO_ROOM, "", 1, 3);
-    EXPECT(sluicepod_find_trailer(BYTES("A: 1\nA: 2\n 3\n"), BYTES("a"), out, 3, RESULT), SLUICEPOD_OK, "2 3", 6, 5, 6, 1, 0, 3, SLUICEPOD_LF);
-    EXPECT(sluicepod_message_trailers(BYTES("t\n\nx\n\nA: b"), RESULT), SLUICEPOD_OK, "", 1, 4);
-    EXPECT(sluicepod_message_trailers(BYTES("t\n\n"), RESULT), SLUICEPOD_OK, "", 1, 3);
+    EXPECT(sluicepod_find_trailer(BYTES("A: 1\nA: 2\n 3\n"), BYTES("a"), out, 3, RESULT), SLUICEPOD_OK, "2 3", 7, 5, 6, 1, 0, 3, SLUICEPOD_LF, 2);
+    EXPECT(sluicepod_message_trailers(BYTES("t\n\nx\n\nA: b"), RESULT), SLUICEPOD_OK, "", 2, 4, 3);
+    EXPECT(sluicepod_message_trailers(BYTES("t\n\n"), RESULT), SLUICEPOD_OK, "", 2, 3, 3);
 }
 
 /* Document 02's examples of line ends, K2.3 to K2.6, and what is near them. */
@@ -137,15 +137,63 @@ static void endings(void) {
     EXPECT(sluicepod_block_start(BYTES("x\ry"), RESULT), SLUICEPOD_OK, "", 2, 3, SLUICEPOD_NO_ENDING);
     EXPECT(sluicepod_block_start(BYTES("A: b\n\r\n\r"), RESULT), SLUICEPOD_OK, "", 2, 0, SLUICEPOD_LF);
     /* K2.4, by the step and by name: the last folded line's, not the trailer line's; the other way round; a CR alone; a CR that is text */
-    EXPECT(sluicepod_next_trailer(BYTES("A: b\r\n c\n"), 0, SLUICEPOD_ALL, out, 9, RESULT), SLUICEPOD_OK, "b c", 7, 0, 1, 1, 0, 3, 9, SLUICEPOD_LF);
-    EXPECT(sluicepod_find_trailer(BYTES("A: b\r\n c\n"), BYTES("a"), OUT, RESULT), SLUICEPOD_OK, "b c", 6, 0, 1, 1, 0, 3, SLUICEPOD_LF);
-    EXPECT(sluicepod_next_trailer(BYTES("A: b\n c\r\nD: e"), 0, SLUICEPOD_ALL, OUT, RESULT), SLUICEPOD_OK, "b c", 7, 0, 1, 1, 0, 3, 9, SLUICEPOD_CR_LF);
-    EXPECT(sluicepod_next_trailer(BYTES("A: b\r"), 0, SLUICEPOD_ALL, OUT, RESULT), SLUICEPOD_OK, "", 7, 0, 1, 0, 3, 4, 5, SLUICEPOD_CR);
-    EXPECT(sluicepod_find_trailer(BYTES("A: b\r"), BYTES("A"), OUT, RESULT), SLUICEPOD_OK, "", 6, 0, 1, 0, 3, 4, SLUICEPOD_CR);
-    EXPECT(sluicepod_next_trailer(BYTES("A: b\rc"), 0, SLUICEPOD_ALL, OUT, RESULT), SLUICEPOD_OK, "", 7, 0, 1, 0, 3, 6, 6, SLUICEPOD_NO_ENDING);
+    EXPECT(sluicepod_next_trailer(BYTES("A: b\r\n c\n"), 0, 1, SLUICEPOD_ALL, out, 9, RESULT), SLUICEPOD_OK, "b c", 9, 0, 1, 1, 0, 3, 9, SLUICEPOD_LF, 1, 3);
+    EXPECT(sluicepod_find_trailer(BYTES("A: b\r\n c\n"), BYTES("a"), OUT, RESULT), SLUICEPOD_OK, "b c", 7, 0, 1, 1, 0, 3, SLUICEPOD_LF, 1);
+    EXPECT(sluicepod_next_trailer(BYTES("A: b\n c\r\nD: e"), 0, 1, SLUICEPOD_ALL, OUT, RESULT), SLUICEPOD_OK, "b c", 9, 0, 1, 1, 0, 3, 9, SLUICEPOD_CR_LF, 1, 3);
+    EXPECT(sluicepod_next_trailer(BYTES("A: b\r"), 0, 1, SLUICEPOD_ALL, OUT, RESULT), SLUICEPOD_OK, "", 9, 0, 1, 0, 3, 4, 5, SLUICEPOD_CR, 1, 1);
+    EXPECT(sluicepod_find_trailer(BYTES("A: b\r"), BYTES("A"), OUT, RESULT), SLUICEPOD_OK, "", 7, 0, 1, 0, 3, 4, SLUICEPOD_CR, 1);
+    EXPECT(sluicepod_next_trailer(BYTES("A: b\rc"), 0, 1, SLUICEPOD_ALL, OUT, RESULT), SLUICEPOD_OK, "", 9, 0, 1, 0, 3, 6, 6, SLUICEPOD_NO_ENDING, 1, 1);
 }
 
-/* The lister's example, walked as a caller walks: each trailer as `token: value`. */
+/* Line numbers, document 02's K8. */
+static void line_numbers(void) {
+    /* a message: the title's two lines count, and so does the blank line above the block, where the block starts */
+    EXPECT(sluicepod_message_trailers(BYTES("t\nu\n\nx\n\nA: b\nC: d\n"), RESULT), SLUICEPOD_OK, "", 2, 6, 4);
+    EXPECT(sluicepod_next_trailer(BYTES("t\nu\n\nx\n\nA: b\nC: d\n"), 6, 4, SLUICEPOD_ALL, OUT, RESULT), SLUICEPOD_OK, "", 9, 8, 9, 0, 11, 12, 13, SLUICEPOD_LF, 6, 7);
+    EXPECT(sluicepod_next_trailer(BYTES("t\nu\n\nx\n\nA: b\nC: d\n"), 13, 7, SLUICEPOD_ALL, OUT, RESULT), SLUICEPOD_OK, "", 9, 13, 14, 0, 16, 17, 18, SLUICEPOD_LF, 7, 8);
+    /* the end's number: that of the line which would come next; where the last line has no LF, its own */
+    EXPECT(sluicepod_next_trailer(BYTES("t\nu\n\nx\n\nA: b\nC: d\n"), 18, 8, SLUICEPOD_ALL, OUT, RESULT), SLUICEPOD_OK, "", 2, 18, 8);
+    EXPECT(sluicepod_next_trailer(BYTES("A: b\nx"), 5, 2, SLUICEPOD_ALL, OUT, RESULT), SLUICEPOD_OK, "", 2, 6, 2);
+    /* a message without a body, and one without a block: the number of its end */
+    EXPECT(sluicepod_message_trailers(BYTES("t\nu\n"), RESULT), SLUICEPOD_OK, "", 2, 4, 3);
+    EXPECT(sluicepod_message_trailers(BYTES("t\n\nx\ny"), RESULT), SLUICEPOD_OK, "", 2, 6, 4);
+    EXPECT(sluicepod_message_trailers(BYTES(""), RESULT), SLUICEPOD_OK, "", 2, 0, 1);
+    /* the message's body, bare: counted from its first line */
+    EXPECT(sluicepod_body_trailers(BYTES("x\n\nA: b\nC: d\n"), RESULT), SLUICEPOD_OK, "", 2, 1, 1);
+    EXPECT(sluicepod_next_trailer(BYTES("x\n\nA: b\nC: d\n"), 1, 1, SLUICEPOD_ALL, OUT, RESULT), SLUICEPOD_OK, "", 9, 3, 4, 0, 6, 7, 8, SLUICEPOD_LF, 3, 4);
+    EXPECT(sluicepod_find_trailer(BYTES("x\n\nA: b\nC: d\n"), BYTES("c"), OUT, RESULT), SLUICEPOD_OK, "", 7, 8, 9, 0, 11, 12, SLUICEPOD_LF, 4);
+    EXPECT(sluicepod_body_trailers(BYTES("x\ny\n"), RESULT), SLUICEPOD_OK, "", 2, 4, 3);
+    EXPECT(sluicepod_body_trailers(BYTES(""), RESULT), SLUICEPOD_OK, "", 2, 0, 1);
+    /* folded lines count, and so do lines that are passed over */
+    EXPECT(sluicepod_next_trailer(BYTES("A: b\n c\n d\nE: f"), 0, 1, SLUICEPOD_ALL, OUT, RESULT), SLUICEPOD_OK, "b c d", 9, 0, 1, 1, 0, 5, 11, SLUICEPOD_LF, 1, 4);
+    EXPECT(sluicepod_next_trailer(BYTES("A: b\n c\n d\nE: f"), 11, 4, SLUICEPOD_ALL, OUT, RESULT), SLUICEPOD_OK, "", 9, 11, 12, 0, 14, 15, 15, SLUICEPOD_NO_ENDING, 4, 4);
+    EXPECT(sluicepod_find_trailer(BYTES("A: b\n c\n d\nE: f"), BYTES("E"), OUT, RESULT), SLUICEPOD_OK, "", 7, 11, 12, 0, 14, 15, SLUICEPOD_NO_ENDING, 4);
+    EXPECT(sluicepod_next_trailer(BYTES("A: b\n c\nx\nAcked-by: d"), 0, 1, SLUICEPOD_ACKED_BY, OUT, RESULT), SLUICEPOD_OK, "", 9, 10, 18, 0, 20, 21, 21, SLUICEPOD_NO_ENDING, 4, 4);
+    /* a CR alone ends no line, with its LF it ends one */
+    EXPECT(sluicepod_cursor_at(BYTES("a\rb\r\nc\r"), 7, RESULT), SLUICEPOD_OK, "", 2, 7, 2);
+    EXPECT(sluicepod_next_trailer(BYTES("A: b\rc\r\nD: e\r"), 0, 1, SLUICEPOD_ALL, OUT, RESULT), SLUICEPOD_OK, "", 9, 0, 1, 0, 3, 6, 8, SLUICEPOD_CR_LF, 1, 2);
+    EXPECT(sluicepod_next_trailer(BYTES("A: b\rc\r\nD: e\r"), 8, 2, SLUICEPOD_ALL, OUT, RESULT), SLUICEPOD_OK, "", 9, 8, 9, 0, 11, 12, 13, SLUICEPOD_CR, 2, 2);
+    /* the cursor of a place: a line's start, its middle, its LF, the end, past it */
+    EXPECT(sluicepod_cursor_at(BYTES("ab\ncd\n"), 0, RESULT), SLUICEPOD_OK, "", 2, 0, 1);
+    EXPECT(sluicepod_cursor_at(BYTES("ab\ncd\n"), 2, RESULT), SLUICEPOD_OK, "", 2, 2, 1);
+    EXPECT(sluicepod_cursor_at(BYTES("ab\ncd\n"), 3, RESULT), SLUICEPOD_OK, "", 2, 3, 2);
+    EXPECT(sluicepod_cursor_at(BYTES("ab\ncd\n"), 4, RESULT), SLUICEPOD_OK, "", 2, 4, 2);
+    EXPECT(sluicepod_cursor_at(BYTES("ab\ncd\n"), 6, RESULT), SLUICEPOD_OK, "", 2, 6, 3);
+    EXPECT(sluicepod_cursor_at(BYTES("ab\ncd\n"), 7, RESULT), SLUICEPOD_BAD_PLACE, "", 0);
+    EXPECT(sluicepod_cursor_at(BYTES("ab\ncd\n"), SIZE_MAX, RESULT), SLUICEPOD_BAD_PLACE, "", 0);
+    EXPECT(sluicepod_cursor_at(BYTES(""), 0, RESULT), SLUICEPOD_OK, "", 2, 0, 1);
+    /* numbers that cannot be the position's: 0, and one more than all bytes before it could make; the folded value would be written */
+    EXPECT(sluicepod_next_trailer(BYTES("A: b\n c"), 0, 0, SLUICEPOD_ALL, OUT, RESULT), SLUICEPOD_BAD_PLACE, "", 0);
+    EXPECT(sluicepod_next_trailer(BYTES("A: b\n c"), 0, 2, SLUICEPOD_ALL, OUT, RESULT), SLUICEPOD_BAD_PLACE, "", 0);
+    EXPECT(sluicepod_next_trailer(BYTES("x\nA: b\n c"), 2, 4, SLUICEPOD_ALL, OUT, RESULT), SLUICEPOD_BAD_PLACE, "", 0);
+    EXPECT(sluicepod_next_trailer(BYTES("x\nA: b\n c"), 2, SIZE_MAX, SLUICEPOD_ALL, OUT, RESULT), SLUICEPOD_BAD_PLACE, "", 0);
+    EXPECT(sluicepod_next_trailer(BYTES("A: b"), 5, 1, SLUICEPOD_ALL, OUT, RESULT), SLUICEPOD_BAD_PLACE, "", 0);
+    /* one that could be, and is not, is counted on from */
+    EXPECT(sluicepod_next_trailer(BYTES("x\nA: b\n c"), 2, 3, SLUICEPOD_ALL, OUT, RESULT), SLUICEPOD_OK, "b c", 9, 2, 3, 1, 0, 3, 9, SLUICEPOD_NO_ENDING, 3, 4);
+    EXPECT(sluicepod_next_trailer(BYTES("x\nA: b\n c"), 2, 1, SLUICEPOD_ALL, OUT, RESULT), SLUICEPOD_OK, "b c", 9, 2, 3, 1, 0, 3, 9, SLUICEPOD_NO_ENDING, 1, 2);
+}
+
+/* The lister's example, walked as a caller walks: each trailer as its line's number and `token: value`. */
 static void walk(void) {
     static const char message[] = "t\n\nx\n\nVehicle: 7\nRecords: 318,\n 22 late\n";
     const uint8_t *input = (const uint8_t *)message;
@@ -154,18 +202,21 @@ static void walk(void) {
     size_t used = 0;
     reset();
     uint32_t code = sluicepod_message_trailers(input, len, RESULT);
-    size_t at = result[1];
+    size_t at = result[1], line = result[2];
     while (code == SLUICEPOD_OK) {
-        code = sluicepod_next_trailer(input, len, at, SLUICEPOD_ALL, OUT, RESULT);
-        if (code != SLUICEPOD_OK || result[0] == 1)
+        code = sluicepod_next_trailer(input, len, at, line, SLUICEPOD_ALL, OUT, RESULT);
+        if (code != SLUICEPOD_OK || result[0] == 2)
             break;
         const uint8_t *holds = result[3] == 0 ? input : out;
-        used += (size_t)snprintf(listed + used, sizeof listed - used, "%.*s: %.*s\n", (int)(result[2] - result[1]),
-                                 message + result[1], (int)(result[5] - result[4]), (const char *)holds + result[4]);
+        used += (size_t)snprintf(listed + used, sizeof listed - used, "%zu %.*s: %.*s\n", result[8],
+                                 (int)(result[2] - result[1]), message + result[1], (int)(result[5] - result[4]),
+                                 (const char *)holds + result[4]);
         at = result[6];
+        line = result[9];
     }
     check(__LINE__, listed, code,
-          code == SLUICEPOD_OK && result[1] == len && strcmp(listed, "Vehicle: 7\nRecords: 318, 22 late\n") == 0);
+          code == SLUICEPOD_OK && result[1] == len && result[2] == 8 &&
+              strcmp(listed, "5 Vehicle: 7\n6 Records: 318, 22 late\n") == 0);
 }
 
 /* The kinds by their numbers: for each token, which of the nine questions is answered with yes. */
@@ -187,7 +238,7 @@ static void kinds(void) {
 }
 
 static void places_and_room(void) {
-    EXPECT(sluicepod_next_trailer(BYTES("A: b"), 5, SLUICEPOD_ALL, OUT, RESULT), SLUICEPOD_BAD_PLACE, "", 0);
+    EXPECT(sluicepod_next_trailer(BYTES("A: b"), 5, 1, SLUICEPOD_ALL, OUT, RESULT), SLUICEPOD_BAD_PLACE, "", 0);
     EXPECT(sluicepod_next_block(BYTES("A: b"), 5, 0, RESULT), SLUICEPOD_BAD_PLACE, "", 0);
     EXPECT(sluicepod_next_block(BYTES("A: b"), 0, 5, RESULT), SLUICEPOD_BAD_PLACE, "", 0);
     EXPECT(sluicepod_is_of_kind(BYTES("A: b"), 0, 5, SLUICEPOD_ALL, RESULT), SLUICEPOD_BAD_PLACE, "", 0);
@@ -196,13 +247,13 @@ static void places_and_room(void) {
     EXPECT(sluicepod_summary(BYTES("a \n  b"), out, 4, RESULT), SLUICEPOD_NO_ROOM, "", 1, 5);
     EXPECT(sluicepod_summary(BYTES("a \n  b"), out, 5, RESULT), SLUICEPOD_OK, "a   b", 3, 1, 0, 5);
     EXPECT(sluicepod_message_summary(BYTES("a\nb"), out, 0, RESULT), SLUICEPOD_NO_ROOM, "", 1, 3);
-    EXPECT(sluicepod_next_trailer(BYTES("A: b\n c"), 0, SLUICEPOD_ALL, out, 2, RESULT), SLUICEPOD_NO_ROOM, "", 1, 3);
-    EXPECT(sluicepod_next_trailer(BYTES("A: b\n c"), 0, SLUICEPOD_ALL, out, 3, RESULT), SLUICEPOD_OK, "b c", 7, 0, 1, 1, 0, 3, 7, SLUICEPOD_NO_ENDING);
+    EXPECT(sluicepod_next_trailer(BYTES("A: b\n c"), 0, 1, SLUICEPOD_ALL, out, 2, RESULT), SLUICEPOD_NO_ROOM, "", 1, 3);
+    EXPECT(sluicepod_next_trailer(BYTES("A: b\n c"), 0, 1, SLUICEPOD_ALL, out, 3, RESULT), SLUICEPOD_OK, "b c", 9, 0, 1, 1, 0, 3, 7, SLUICEPOD_NO_ENDING, 1, 2);
     EXPECT(sluicepod_find_trailer(BYTES("A: b\n c"), BYTES("A"), out, 2, RESULT), SLUICEPOD_NO_ROOM, "", 1, 3);
     /* a part of the input needs no room */
-    EXPECT(sluicepod_next_trailer(BYTES("A: b"), 0, SLUICEPOD_ALL, out, 0, RESULT), SLUICEPOD_OK, "", 7, 0, 1, 0, 3, 4, 4, SLUICEPOD_NO_ENDING);
+    EXPECT(sluicepod_next_trailer(BYTES("A: b"), 0, 1, SLUICEPOD_ALL, out, 0, RESULT), SLUICEPOD_OK, "", 9, 0, 1, 0, 3, 4, 4, SLUICEPOD_NO_ENDING, 1, 1);
     /* no kind: before the place is looked at */
-    EXPECT(sluicepod_next_trailer(BYTES("A: b\n c"), 8, 9, OUT, RESULT), SLUICEPOD_NO_KIND, "", 0);
+    EXPECT(sluicepod_next_trailer(BYTES("A: b\n c"), 8, 2, 9, OUT, RESULT), SLUICEPOD_NO_KIND, "", 0);
     EXPECT(sluicepod_is_of_kind(BYTES("A: b"), 0, 5, 9, RESULT), SLUICEPOD_NO_KIND, "", 0);
     EXPECT(sluicepod_is_of_kind(BYTES("A: b"), 0, 1, UINT32_MAX, RESULT), SLUICEPOD_NO_KIND, "", 0);
 }
@@ -221,17 +272,21 @@ static void limit(void) {
     EXPECT(sluicepod_message_summary(input, len + 1, OUT, RESULT), SLUICEPOD_TOO_LONG, "", 0);
     EXPECT(sluicepod_block_start(input, len, RESULT), SLUICEPOD_OK, "", 2, len, SLUICEPOD_NO_ENDING);
     EXPECT(sluicepod_block_start(input, len + 1, RESULT), SLUICEPOD_TOO_LONG, "", 0);
-    EXPECT(sluicepod_message_trailers(input, len, RESULT), SLUICEPOD_OK, "", 1, len);
+    EXPECT(sluicepod_message_trailers(input, len, RESULT), SLUICEPOD_OK, "", 2, len, (size_t)1);
     EXPECT(sluicepod_message_trailers(input, len + 1, RESULT), SLUICEPOD_TOO_LONG, "", 0);
+    EXPECT(sluicepod_body_trailers(input, len, RESULT), SLUICEPOD_OK, "", 2, len, (size_t)1);
+    EXPECT(sluicepod_body_trailers(input, len + 1, RESULT), SLUICEPOD_TOO_LONG, "", 0);
+    EXPECT(sluicepod_cursor_at(input, len, len, RESULT), SLUICEPOD_OK, "", 2, len, (size_t)1);
     EXPECT(sluicepod_find_trailer(input, len, BYTES("A"), OUT, RESULT), SLUICEPOD_OK, "", 0);
     EXPECT(sluicepod_find_trailer(input, len + 1, BYTES("A"), OUT, RESULT), SLUICEPOD_TOO_LONG, "", 0);
     EXPECT(sluicepod_find_trailer(BYTES("A: b"), input, len, OUT, RESULT), SLUICEPOD_OK, "", 0);
     EXPECT(sluicepod_find_trailer(BYTES("A: b"), input, len + 1, OUT, RESULT), SLUICEPOD_TOO_LONG, "", 0);
-    EXPECT(sluicepod_next_trailer(input, len, 0, SLUICEPOD_ALL, OUT, RESULT), SLUICEPOD_OK, "", 1, len);
+    EXPECT(sluicepod_next_trailer(input, len, 0, 1, SLUICEPOD_ALL, OUT, RESULT), SLUICEPOD_OK, "", 2, len, (size_t)1);
     EXPECT(sluicepod_next_block(input, len, 0, 0, RESULT), SLUICEPOD_OK, "", 4, len, len, len, len);
     EXPECT(sluicepod_is_of_kind(input, len, 0, 1, SLUICEPOD_ALL, RESULT), SLUICEPOD_OK, "", 1, (size_t)1);
     /* before the place is looked at */
-    EXPECT(sluicepod_next_trailer(input, len + 1, len + 2, SLUICEPOD_ALL, OUT, RESULT), SLUICEPOD_TOO_LONG, "", 0);
+    EXPECT(sluicepod_next_trailer(input, len + 1, len + 2, 0, SLUICEPOD_ALL, OUT, RESULT), SLUICEPOD_TOO_LONG, "", 0);
+    EXPECT(sluicepod_cursor_at(input, len + 1, len + 2, RESULT), SLUICEPOD_TOO_LONG, "", 0);
     EXPECT(sluicepod_next_block(input, len + 1, len + 2, 0, RESULT), SLUICEPOD_TOO_LONG, "", 0);
     EXPECT(sluicepod_is_of_kind(input, len + 1, 1, 0, SLUICEPOD_ALL, RESULT), SLUICEPOD_TOO_LONG, "", 0);
     /* a short result, before all else */
@@ -246,8 +301,10 @@ static void short_results(void) {
         EXPECT_NOTHING_WRITTEN(sluicepod_message_summary(BYTES("a\nb"), OUT, result, len), SLUICEPOD_SHORT_RESULT);
         EXPECT_NOTHING_WRITTEN(sluicepod_block_start(BYTES("A: b"), result, len), SLUICEPOD_SHORT_RESULT);
         EXPECT_NOTHING_WRITTEN(sluicepod_message_trailers(BYTES("t\n\nA: b"), result, len), SLUICEPOD_SHORT_RESULT);
-        EXPECT_NOTHING_WRITTEN(sluicepod_next_trailer(BYTES("A: b\n c"), 0, SLUICEPOD_ALL, OUT, result, len), SLUICEPOD_SHORT_RESULT);
-        EXPECT_NOTHING_WRITTEN(sluicepod_next_trailer(BYTES("A: b\n c"), 0, 9, OUT, result, len), SLUICEPOD_SHORT_RESULT);
+        EXPECT_NOTHING_WRITTEN(sluicepod_body_trailers(BYTES("A: b"), result, len), SLUICEPOD_SHORT_RESULT);
+        EXPECT_NOTHING_WRITTEN(sluicepod_cursor_at(BYTES("A: b"), 0, result, len), SLUICEPOD_SHORT_RESULT);
+        EXPECT_NOTHING_WRITTEN(sluicepod_next_trailer(BYTES("A: b\n c"), 0, 1, SLUICEPOD_ALL, OUT, result, len), SLUICEPOD_SHORT_RESULT);
+        EXPECT_NOTHING_WRITTEN(sluicepod_next_trailer(BYTES("A: b\n c"), 0, 1, 9, OUT, result, len), SLUICEPOD_SHORT_RESULT);
         EXPECT_NOTHING_WRITTEN(sluicepod_find_trailer(BYTES("A: b\n c"), BYTES("A"), OUT, result, len), SLUICEPOD_SHORT_RESULT);
         EXPECT_NOTHING_WRITTEN(sluicepod_next_block(BYTES("A: b"), 0, 0, result, len), SLUICEPOD_SHORT_RESULT);
         EXPECT_NOTHING_WRITTEN(sluicepod_is_of_kind(BYTES("A: b"), 0, 1, SLUICEPOD_ALL, result, len), SLUICEPOD_SHORT_RESULT);
@@ -266,6 +323,7 @@ int main(void) {
     starts_and_blocks();
     trailers();
     endings();
+    line_numbers();
     walk();
     kinds();
     places_and_room();
