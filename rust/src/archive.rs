@@ -31,17 +31,25 @@ pub enum Place {
     Out,
 }
 
-/// A trailer: where its token and its value stand, and how its last line ends.
+/// A place of an input, and the number of its line there.
+#[derive(Clone, Copy, Debug)]
+pub struct Cursor {
+    pub at: usize,
+    pub line: usize,
+}
+
+/// A trailer: where its token and its value stand, how its last line ends, and the number of the line where it starts.
 pub struct Found {
     pub token: Range<usize>,
     pub value: Place,
     pub ending: Ending,
+    pub line: usize,
 }
 
-/// A step of the trailer walk: what it found, if it is not at the end, and the position to go on from.
+/// A step of the trailer walk: what it found, if it is not at the end, and where to go on from.
 pub struct TrailerStep {
     pub found: Option<Found>,
-    pub next: usize,
+    pub next: Cursor,
 }
 
 /// A step of the block walk: the ends of the message and of the block, if it is not at the end, and the position and the
@@ -91,19 +99,27 @@ pub fn block_start(body: &[u8]) -> Result<(usize, Ending), Refusal> {
 }
 
 /// Where the walk of a message's trailers begins.
-pub fn message_trailers(message: &[u8]) -> Result<usize, Refusal> {
-    let [_, at, ..] =
+pub fn message_trailers(message: &[u8]) -> Result<Cursor, Refusal> {
+    let [_, at, line, ..] =
         ask(|result, len| unsafe { sluicepod_message_trailers(message.as_ptr(), message.len(), result, len) })?;
-    Ok(at)
+    Ok(Cursor { at, line })
 }
 
-/// The next trailer of the kind from `at` on.
-pub fn next_trailer(body: &[u8], at: usize, kind: Kind, out: &mut [u8]) -> Result<TrailerStep, Refusal> {
+/// The cursor of the place `at`.
+pub fn cursor_at(input: &[u8], at: usize) -> Result<Cursor, Refusal> {
+    let [_, at, line, ..] =
+        ask(|result, len| unsafe { sluicepod_cursor_at(input.as_ptr(), input.len(), at, result, len) })?;
+    Ok(Cursor { at, line })
+}
+
+/// The next trailer of the kind from the cursor on.
+pub fn next_trailer(body: &[u8], cursor: Cursor, kind: Kind, out: &mut [u8]) -> Result<TrailerStep, Refusal> {
     let answer = ask(|result, len| unsafe {
         sluicepod_next_trailer(
             body.as_ptr(),
             body.len(),
-            at,
+            cursor.at,
+            cursor.line,
             kind as u32,
             out.as_mut_ptr(),
             out.len(),
@@ -112,15 +128,19 @@ pub fn next_trailer(body: &[u8], at: usize, kind: Kind, out: &mut [u8]) -> Resul
         )
     })?;
     Ok(match answer {
-        [7, token_start, token_end, held, start, end, next, number, ..] => TrailerStep {
+        [9, token_start, token_end, held, start, end, at, number, line, next_line, ..] => TrailerStep {
             found: Some(Found {
                 token: token_start..token_end,
                 value: place(held, start, end),
                 ending: ending(number),
+                line,
             }),
-            next,
+            next: Cursor { at, line: next_line },
         },
-        [_, next, ..] => TrailerStep { found: None, next },
+        [_, at, line, ..] => TrailerStep {
+            found: None,
+            next: Cursor { at, line },
+        },
     })
 }
 
@@ -139,10 +159,11 @@ pub fn find_trailer(body: &[u8], name: &[u8], out: &mut [u8]) -> Result<Option<F
         )
     })?;
     Ok(match answer {
-        [6, token_start, token_end, held, start, end, number, ..] => Some(Found {
+        [7, token_start, token_end, held, start, end, number, line, ..] => Some(Found {
             token: token_start..token_end,
             value: place(held, start, end),
             ending: ending(number),
+            line,
         }),
         _ => None,
     })
@@ -363,10 +384,13 @@ extern "C" {
     fn sluicepod_block_start(body: *const u8, body_len: usize, result: *mut usize, result_len: usize) -> u32;
     fn sluicepod_message_trailers(message: *const u8, message_len: usize, result: *mut usize, result_len: usize)
         -> u32;
+    fn sluicepod_cursor_at(input: *const u8, input_len: usize, at: usize, result: *mut usize, result_len: usize)
+        -> u32;
     fn sluicepod_next_trailer(
         body: *const u8,
         body_len: usize,
         at: usize,
+        line: usize,
         kind: u32,
         out: *mut u8,
         out_len: usize,

@@ -1,7 +1,7 @@
 use std::{borrow::Cow, iter, ops::Deref};
 
 use crate::{
-    archive::{self, Found, Kind},
+    archive::{self, Cursor, Found, Kind},
     value::{value, with_room},
     Ending, Refusal,
 };
@@ -73,17 +73,19 @@ impl<'a> BodyRef<'a> {
         &self.body[..self.trailer_start]
     }
 
-    /// The trailers of the trailer block.
+    /// The trailers of the trailer block. Their [lines](TrailerRef::line) are counted in the body, so all of the body above
+    /// them is looked at.
     pub fn trailers(&self) -> Trailers<'a> {
         Trailers {
             input: self.body,
-            at: self.trailer_start,
+            cursor: moved_on(self.body, FRONT, self.trailer_start),
         }
     }
 
     /// The whole body as messages, each with the trailers that directly follow it.
     ///
-    /// The parts, joined, are the body. What looks like a trailer above the trailer block is a part of a message.
+    /// The parts, joined, are the body. What looks like a trailer above the trailer block is a part of a message. The lines
+    /// are counted from block to block, so all of the body is looked at, once.
     ///
     /// ```
     /// use sluicepod::BodyRef;
@@ -98,7 +100,7 @@ impl<'a> BodyRef<'a> {
     pub fn message_blocks(&self) -> MessageBlocks<'a> {
         MessageBlocks {
             body: self.body,
-            at: 0,
+            cursor: FRONT,
             start: self.trailer_start,
         }
     }
@@ -143,16 +145,29 @@ impl Deref for BodyRef<'_> {
 pub struct Trailers<'a> {
     // Within LIMIT.
     pub(crate) input: &'a [u8],
-    // At most the input's length.
-    pub(crate) at: usize,
+    // A place of the input, with the number of its line there.
+    pub(crate) cursor: Cursor,
+}
+
+/// The cursor of an input's front.
+const FRONT: Cursor = Cursor { at: 0, line: 1 };
+
+/// A cursor, moved on to a later place of an input within the limit: the LFs between are counted.
+fn moved_on(input: &[u8], from: Cursor, at: usize) -> Cursor {
+    let between = &input[from.at..at];
+    let counted = archive::cursor_at(between, between.len()).expect("the end of an input within the limit");
+    Cursor {
+        at,
+        line: from.line + counted.line - 1,
+    }
 }
 
 impl<'a> Trailers<'a> {
     /// The next trailer of the kind.
     fn next_of(&mut self, kind: Kind) -> Option<TrailerRef<'a>> {
-        let (step, out) = with_room(|out| archive::next_trailer(self.input, self.at, kind, out))
-            .expect("a position in an input within the limit");
-        self.at = step.next;
+        let (step, out) = with_room(|out| archive::next_trailer(self.input, self.cursor, kind, out))
+            .expect("a cursor of an input within the limit");
+        self.cursor = step.next;
         Some(TrailerRef::at(self.input, step.found?, out))
     }
 
@@ -211,6 +226,24 @@ pub struct TrailerRef<'a> {
     ///
     /// The original has no such field; it counts when two trailers are compared, as the others do.
     pub ending: Ending,
+    /// The number of the line where it starts, counted from 1: one more than the LFs before it. A CR alone ends no line.
+    ///
+    /// A trailer of a [message](crate::message_trailers) is counted in the message, the title's lines included; one of a
+    /// [`BodyRef`], of its walk, its blocks or its lookup, from the body's first line. Along a walk the numbers rise.
+    ///
+    /// ```
+    /// use sluicepod::{message_trailers, MessageRef};
+    ///
+    /// let message = b"Offload of bus 7,\nsecond run\n\nAll well.\n\nVehicle: 7\nRecords: 318,\n 22 late\nUnit: 3\n";
+    /// assert!(message_trailers(message)?.map(|trailer| trailer.line).eq([6, 7, 9]));
+    /// let body = MessageRef::from_bytes(message)?.body().unwrap();
+    /// assert!(body.trailers().map(|trailer| trailer.line).eq([3, 4, 6]));
+    /// # Ok::<(), sluicepod::Refusal>(())
+    /// ```
+    ///
+    /// The original has no such field; it counts when two trailers are compared, as the others do: the same trailer on
+    /// another line is another one.
+    pub line: usize,
 }
 
 impl<'a> TrailerRef<'a> {
@@ -219,6 +252,7 @@ impl<'a> TrailerRef<'a> {
             token: &input[found.token],
             value: value(input, found.value, out),
             ending: found.ending,
+            line: found.line,
         }
     }
 }
@@ -271,8 +305,9 @@ impl TrailerRef<'_> {
 pub struct MessageBlocks<'a> {
     // Within LIMIT.
     body: &'a [u8],
-    // Both at most the body's length.
-    at: usize,
+    // A place of the body, with the number of its line there.
+    cursor: Cursor,
+    // At most the body's length.
     start: usize,
 }
 
@@ -280,13 +315,17 @@ impl<'a> Iterator for MessageBlocks<'a> {
     type Item = MessageBlock<'a>;
 
     fn next(&mut self) -> Option<MessageBlock<'a>> {
-        let from = self.at;
-        let step = archive::next_block(self.body, from, self.start).expect("positions in a body within the limit");
-        (self.at, self.start) = step.next;
+        let from = self.cursor;
+        let step = archive::next_block(self.body, from.at, self.start).expect("positions in a body within the limit");
+        let (at, start) = step.next;
+        self.start = start;
         let (message_end, end) = step.ends?;
+        let cursor = moved_on(self.body, from, message_end);
+        self.cursor = moved_on(self.body, cursor, at);
         Some(MessageBlock {
-            message: &self.body[from..message_end],
-            trailers: &self.body[message_end..end],
+            message: &self.body[from.at..message_end],
+            input: &self.body[..end],
+            cursor,
         })
     }
 }
@@ -296,15 +335,19 @@ impl<'a> Iterator for MessageBlocks<'a> {
 pub struct MessageBlock<'a> {
     /// The message as it stands in the body, white space and line ends with it.
     pub message: &'a [u8],
-    trailers: &'a [u8],
+    // The body up to the block's end, within LIMIT.
+    input: &'a [u8],
+    // Where its trailers begin.
+    cursor: Cursor,
 }
 
 impl<'a> MessageBlock<'a> {
-    /// The trailers that directly follow [`message`](MessageBlock::message).
+    /// The trailers that directly follow [`message`](MessageBlock::message); their [lines](TrailerRef::line) are counted in
+    /// the body.
     pub fn trailers(&self) -> Trailers<'a> {
         Trailers {
-            input: self.trailers,
-            at: 0,
+            input: self.input,
+            cursor: self.cursor,
         }
     }
 }

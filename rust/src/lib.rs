@@ -8,8 +8,9 @@
 //! - Bytes are `[u8]`, not `BStr`: the crate has no dependencies.
 //! - `CommitRef::message_summary()` and `CommitRef::message_trailers()` are functions that take the commit's message.
 //! - [`BodyRef::find`] and [`BodyRef::trailer_start`] are added; so are how lines end ([`BodyRef::ending`] and the field
-//!   [`TrailerRef::ending`]), [`CommitObject`], [`mailbox`], which tells who signed, bundles: [`write_bundle`], [`Bundle`], and
-//!   [`add_trailer`], which writes the message with one trailer more.
+//!   [`TrailerRef::ending`]), the number of a trailer's line ([`TrailerRef::line`]), [`CommitObject`], [`mailbox`], which
+//!   tells who signed, bundles: [`write_bundle`], [`Bundle`], and [`add_trailer`], which writes the message with one
+//!   trailer more.
 //! - [`above_divider`] cuts a message above a patch, for any other call: the second [`Reading`].
 //! - [`may_erase`] says whether a bus's data may be erased, and [`closing_note`] what the entry says of it.
 //!

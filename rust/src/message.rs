@@ -88,14 +88,16 @@ pub fn message_summary(message: &[u8]) -> Result<Cow<'_, [u8]>, Refusal> {
 
 /// The trailers of a message's body: what the original has as `CommitRef::message_trailers()`.
 ///
-/// A message without a body has none, and one whose body ends in no trailer block.
+/// A message without a body has none, and one whose body ends in no trailer block. Their [lines](crate::TrailerRef::line)
+/// are counted in the message, the title's lines included, so all of the message above them is looked at.
 ///
 /// ```
 /// use sluicepod::message_trailers;
 ///
 /// let message = b"Fix it\n\nSigned-off-by: A\nReviewed-by: B\n";
 /// let mut authors = message_trailers(message)?.authors();
-/// assert_eq!(&authors.next().unwrap().value[..], b"A");
+/// let author = authors.next().unwrap();
+/// assert_eq!((&author.value[..], author.line), (&b"A"[..], 3));
 /// assert_eq!(authors.next(), None);
 /// # Ok::<(), sluicepod::Refusal>(())
 /// ```
@@ -104,6 +106,6 @@ pub fn message_summary(message: &[u8]) -> Result<Cow<'_, [u8]>, Refusal> {
 ///
 /// [`Refusal::TooLong`], where the message is longer than [`LIMIT`](crate::LIMIT).
 pub fn message_trailers(message: &[u8]) -> Result<Trailers<'_>, Refusal> {
-    let at = archive::message_trailers(message)?;
-    Ok(Trailers { input: message, at })
+    let cursor = archive::message_trailers(message)?;
+    Ok(Trailers { input: message, cursor })
 }

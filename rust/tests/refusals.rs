@@ -41,6 +41,7 @@ fn what_is_over_the_limit_by_hand() {
         token: &long,
         value: Cow::Borrowed(b""),
         ending: Ending::None,
+        line: 1,
     };
     assert!(!trailer.is_attribution());
     assert_eq!(BodyRef::from_bytes(b"x: y").unwrap().find(&long), None);

@@ -165,6 +165,7 @@ fn replay_as_token(list: &mut List<'_>, token: &[u8]) {
         token,
         value: Cow::Borrowed(b""),
         ending: Ending::None,
+        line: 1,
     };
     assert_eq!(questions(&trailer), list.number());
 }

@@ -113,6 +113,7 @@ fn records_can_be_compared_ordered_and_hashed() -> Result<(), Refusal> {
         token: b"A",
         value: Cow::Borrowed(b"b"),
         ending: Ending::None,
+        line: 1,
     });
     Ok(())
 }
