@@ -12,6 +12,17 @@ fn numbered<'a>(trailers: impl Iterator<Item = TrailerRef<'a>>) -> Vec<(usize, &
 }
 
 #[test]
+fn examples_k8() {
+    let walk = message_trailers(b"t\n\nA: b\nB: c").unwrap();
+    assert_eq!(numbered(walk), [(3, &b"A"[..]), (4, b"B")]); // K8.1
+    assert_eq!(numbered(body(b"A: b").trailers()), [(1, &b"A"[..])]); // K8.2
+    let folded = body(b"\nA: b\n c\n d\nB: e");
+    assert_eq!(numbered(folded.trailers()), [(2, &b"A"[..]), (5, b"B")]); // K8.3
+    let last = body(b"A: 1\nB: 2\nA: 3").find(b"a").unwrap(); // K8.5
+    assert_eq!((&last.value[..], last.line), (&b"3"[..], 3));
+}
+
+#[test]
 fn a_message_and_its_body() {
     let message = b"t\nu\n\nx\n\nA: b\n c\nD: e\n";
     let walk = message_trailers(message).unwrap();

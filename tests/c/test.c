@@ -145,8 +145,19 @@ static void endings(void) {
     EXPECT(sluicepod_next_trailer(BYTES("A: b\rc"), 0, 1, SLUICEPOD_ALL, OUT, RESULT), SLUICEPOD_OK, "", 9, 0, 1, 0, 3, 6, 6, SLUICEPOD_NO_ENDING, 1, 1);
 }
 
-/* Line numbers, document 02's K8. */
+/* Line numbers: document 02's examples K8.1 to K8.3 and K8.5, and what is near them. */
 static void line_numbers(void) {
+    /* K8.1, by steps: the message's walk begins with the title's LFs behind it */
+    EXPECT(sluicepod_message_trailers(BYTES("t\n\nA: b\nB: c"), RESULT), SLUICEPOD_OK, "", 2, 3, 3);
+    EXPECT(sluicepod_next_trailer(BYTES("t\n\nA: b\nB: c"), 3, 3, SLUICEPOD_ALL, out, 0, RESULT), SLUICEPOD_OK, "", 9, 3, 4, 0, 6, 7, 8, SLUICEPOD_LF, 3, 4);
+    EXPECT(sluicepod_next_trailer(BYTES("t\n\nA: b\nB: c"), 8, 4, SLUICEPOD_ALL, out, 0, RESULT), SLUICEPOD_OK, "", 9, 8, 9, 0, 11, 12, 12, SLUICEPOD_NO_ENDING, 4, 4);
+    /* K8.2 */
+    EXPECT(sluicepod_next_trailer(BYTES("A: b"), 0, 1, SLUICEPOD_ALL, out, 9, RESULT), SLUICEPOD_OK, "", 9, 0, 1, 0, 3, 4, 4, SLUICEPOD_NO_ENDING, 1, 1);
+    /* K8.3, by steps */
+    EXPECT(sluicepod_next_trailer(BYTES("\nA: b\n c\n d\nB: e"), 0, 1, SLUICEPOD_ALL, out, 5, RESULT), SLUICEPOD_OK, "b c d", 9, 1, 2, 1, 0, 5, 12, SLUICEPOD_LF, 2, 5);
+    EXPECT(sluicepod_next_trailer(BYTES("\nA: b\n c\n d\nB: e"), 12, 5, SLUICEPOD_ALL, out, 0, RESULT), SLUICEPOD_OK, "", 9, 12, 13, 0, 15, 16, 16, SLUICEPOD_NO_ENDING, 5, 5);
+    /* K8.5 */
+    EXPECT(sluicepod_find_trailer(BYTES("A: 1\nB: 2\nA: 3"), BYTES("a"), out, 0, RESULT), SLUICEPOD_OK, "", 7, 10, 11, 0, 13, 14, SLUICEPOD_NO_ENDING, 3);
     /* a message: the title's two lines count, and so does the blank line above the block, where the block starts */
     EXPECT(sluicepod_message_trailers(BYTES("t\nu\n\nx\n\nA: b\nC: d\n"), RESULT), SLUICEPOD_OK, "", 2, 6, 4);
     EXPECT(sluicepod_next_trailer(BYTES("t\nu\n\nx\n\nA: b\nC: d\n"), 6, 4, SLUICEPOD_ALL, OUT, RESULT), SLUICEPOD_OK, "", 9, 8, 9, 0, 11, 12, 13, SLUICEPOD_LF, 6, 7);
