@@ -65,22 +65,52 @@ pub enum Ending {
     None,
 }
 
-/// One step of the trailer walk: the trailer, where the walk goes on, and how the trailer's last line ends.
+/// One step of the trailer walk: the trailer, where the walk goes on, how the trailer's last line ends, and the numbers of the
+/// lines where it starts and where the walk goes on.
 #[derive(Clone, Debug, PartialEq, Eq)]
 pub struct Trailer {
     pub token: Part,
     pub value: Value,
     pub next: usize,
     pub ending: Ending,
+    pub line: usize,
+    pub next_line: usize,
 }
 
 impl Trailer {
-    pub fn moved(self, by: usize) -> Trailer {
+    /// The same below this many bytes, which are this many lines.
+    pub fn moved(self, by: usize, lines: usize) -> Trailer {
         Trailer {
             token: self.token.moved(by),
             value: self.value.moved(by),
             next: self.next + by,
             ending: self.ending,
+            line: self.line + lines,
+            next_line: self.next_line + lines,
+        }
+    }
+}
+
+/// A place, and the number of its line: one more than the LFs before it, plainly counted.
+#[derive(Clone, Copy, Debug, PartialEq, Eq)]
+pub struct Cursor {
+    pub at: usize,
+    pub line: usize,
+}
+
+impl Cursor {
+    pub const FRONT: Cursor = Cursor { at: 0, line: 1 };
+
+    pub fn of(input: &[u8], at: usize) -> Cursor {
+        Cursor::FRONT.moved_on(input, at)
+    }
+
+    /// The LFs up to a later place are counted on.
+    pub fn moved_on(self, input: &[u8], at: usize) -> Cursor {
+        let lfs = input[self.at..at].iter().filter(|&&byte| byte == b'\n').count();
+        Cursor {
+            at,
+            line: self.line + lfs,
         }
     }
 }
@@ -135,7 +165,7 @@ pub struct Reading {
     /// The summary of the whole message.
     pub message_summary: Value,
     /// Where the walk of its trailers begins; the message's length where it has no body or its body no block.
-    pub message_walk_start: usize,
+    pub message_walk_start: Cursor,
     /// The trailers of the message, in offsets of the message.
     pub message_trailers: Vec<Trailer>,
     /// The same through each of `FILTERS`.
@@ -145,12 +175,16 @@ pub struct Reading {
     pub block_start: usize,
     /// That of the last line that is not blank; none where every line is blank.
     pub ending: Ending,
+    /// Where the walk of its trailers begins: the block's start.
+    pub walk_start: Cursor,
     pub trailers: Vec<Trailer>,
     pub filtered: [Vec<Trailer>; 5],
     /// For each of `trailers`, what its token is.
     pub attributions: Vec<Attribution>,
     pub blocks: Vec<Block>,
-    /// One step of the trailer walk from each of `places(input.len())`.
+    /// The cursor of each of `places(input.len())`.
+    pub cursors: Vec<Cursor>,
+    /// One step of the trailer walk from each of them.
     pub steps: Vec<Option<Trailer>>,
     /// One step of the block walk from each of `block_cursors(input.len())`: message part and trailer part.
     pub block_steps: Vec<Option<(Part, Part)>>,
@@ -168,12 +202,12 @@ impl Reading {
         let filtered = self.message_filtered.iter().chain(&self.filtered);
         let blocks = self.blocks.iter().map(|block| 1 + walk(&block.trailers));
         [
-            5, // title and body, two summaries, where the two walks begin
+            6, // title and body, two summaries, where the two walks and the block begin
             walk(&self.message_trailers) + walk(&self.trailers),
             filtered.map(walk).sum::<usize>(),
             blocks.sum::<usize>() + 1,
             QUESTIONS * (self.attributions.len() + 1),
-            self.steps.len() + self.block_steps.len() + self.found.len(),
+            self.cursors.len() + self.steps.len() + self.block_steps.len() + self.found.len(),
         ]
         .iter()
         .sum()
@@ -274,6 +308,6 @@ pub fn difference(left: &Answer, right: &Answer) -> Option<Difference> {
         };
     }
     in_order!(title_end body_start summary message_summary message_walk_start message_trailers message_filtered
-        block_start ending trailers filtered attributions blocks steps block_steps found as_token);
+        block_start ending walk_start trailers filtered attributions blocks cursors steps block_steps found as_token);
     None
 }

@@ -3,6 +3,8 @@
 //! What the header asks of a caller holds of every slice: its pointer is good for its length and is never null, and no
 //! two that are lent at once overlap where one of them is written to.
 
+use crate::answers::Cursor;
+
 /// How many entries a result must have.
 pub const RESULT_LEN: usize = 16;
 
@@ -71,10 +73,19 @@ mod declared {
             result: *mut usize,
             result_len: usize,
         ) -> u32;
+        pub fn sluicepod_body_trailers(body: *const u8, body_len: usize, result: *mut usize, result_len: usize) -> u32;
+        pub fn sluicepod_cursor_at(
+            input: *const u8,
+            input_len: usize,
+            at: usize,
+            result: *mut usize,
+            result_len: usize,
+        ) -> u32;
         pub fn sluicepod_next_trailer(
             body: *const u8,
             body_len: usize,
             at: usize,
+            line: usize,
             kind: u32,
             out: *mut u8,
             out_len: usize,
@@ -222,12 +233,21 @@ pub fn message_trailers(message: &[u8], result: &mut [usize]) -> u32 {
     unsafe { declared::sluicepod_message_trailers(message.as_ptr(), message.len(), result.as_mut_ptr(), result.len()) }
 }
 
-pub fn next_trailer(body: &[u8], at: usize, kind: u32, out: &mut [u8], result: &mut [usize]) -> u32 {
+pub fn body_trailers(body: &[u8], result: &mut [usize]) -> u32 {
+    unsafe { declared::sluicepod_body_trailers(body.as_ptr(), body.len(), result.as_mut_ptr(), result.len()) }
+}
+
+pub fn cursor_at(input: &[u8], at: usize, result: &mut [usize]) -> u32 {
+    unsafe { declared::sluicepod_cursor_at(input.as_ptr(), input.len(), at, result.as_mut_ptr(), result.len()) }
+}
+
+pub fn next_trailer(body: &[u8], cursor: Cursor, kind: u32, out: &mut [u8], result: &mut [usize]) -> u32 {
     unsafe {
         declared::sluicepod_next_trailer(
             body.as_ptr(),
             body.len(),
-            at,
+            cursor.at,
+            cursor.line,
             kind,
             out.as_mut_ptr(),
             out.len(),

@@ -1,7 +1,7 @@
 //! The original's answers, as offsets and bytes.
 //!
 //! The original answers with slices. A slice's place is how far its pointer lies behind the input's; the original
-//! never answers a slice from elsewhere unless it is empty.
+//! never answers a slice from elsewhere unless it is empty. It numbers no lines: the LFs before its places are counted here.
 
 use std::borrow::Cow;
 
@@ -18,8 +18,8 @@ use original::{
 };
 
 use crate::answers::{
-    block_cursors, names, places, Answer, Attribution, Block, Ending, Filter, NoReading, Part, Reading, Trailer, Value,
-    FILTERS, LIMIT,
+    block_cursors, names, places, Answer, Attribution, Block, Cursor, Ending, Filter, NoReading, Part, Reading,
+    Trailer, Value, FILTERS, LIMIT,
 };
 
 /// The title's end and, where there is a body, the body's start.
@@ -128,7 +128,13 @@ fn message_through(message: &[u8], filter: Filter, walked: &[Trailer]) -> Vec<Tr
 
 /// One step of the trailer walk from any place of a body on, as if a line began there.
 pub fn step(body: &[u8], at: usize) -> Option<Trailer> {
-    next(body, &mut original::walk(&body[at..]))
+    step_from(body, Cursor::of(body, at))
+}
+
+/// The same where the number of the place's line is known.
+fn step_from(body: &[u8], mut cursor: Cursor) -> Option<Trailer> {
+    let mut walk = original::walk(&body[cursor.at..]);
+    next(body, &mut cursor, &mut walk)
 }
 
 /// The blocks of a body. The original shows a block's trailer part through its walk only; before its first step that
@@ -138,12 +144,13 @@ pub fn blocks(body: &[u8]) -> Vec<Block> {
 }
 
 fn blocks_of(body: &[u8], parsed: BodyRef<'_>) -> Vec<Block> {
+    let mut cursor = Cursor::FRONT;
     parsed
         .message_blocks()
         .map(|block| Block {
             message: part(body, block.message),
             trailer_part: part(body, original::rest(&block.trailers())),
-            trailers: all(body, block.trailers()),
+            trailers: all_from(body, &mut cursor, block.trailers()),
         })
         .collect()
 }
@@ -181,8 +188,8 @@ pub fn block_step(body: &[u8], at: usize, start: usize) -> Option<(Part, Part)> 
         message_end = line_end(body, message_end);
     }
     let mut end = message_end;
-    while let Some(trailer) = trailer_at(body, end) {
-        end = trailer.next;
+    while let Some(next) = trailer_at(body, end) {
+        end = next;
     }
     let message = Part {
         start: at,
@@ -195,10 +202,12 @@ pub fn block_step(body: &[u8], at: usize, start: usize) -> Option<(Part, Part)> 
     Some((message, trailer_part))
 }
 
-/// The trailer that begins at a line's start: a walk over this line alone finds one.
-fn trailer_at(body: &[u8], at: usize) -> Option<Trailer> {
-    step(&body[at..line_end(body, at)], 0)?;
-    step(body, at)
+/// Where the trailer ends that begins at a line's start: a walk over this line alone finds one. No number is asked for, so
+/// none is counted.
+fn trailer_at(body: &[u8], at: usize) -> Option<usize> {
+    let end = |lines: &[u8]| step_from(lines, Cursor { at, line: 1 }).map(|trailer| trailer.next);
+    end(&body[..line_end(body, at)])?;
+    end(body)
 }
 
 fn line_end(body: &[u8], at: usize) -> usize {
@@ -217,7 +226,7 @@ pub fn read(input: &[u8]) -> Reading {
         body_start,
         summary: summary(&input[..title_end]),
         message_summary: message_summary(input),
-        message_walk_start: message_walk_start(input),
+        message_walk_start: Cursor::of(input, message_walk_start(input)),
         message_filtered: FILTERS.map(|filter| match message_trailers[..] {
             [] => Vec::new(),
             _ => message_through(input, filter, &message_trailers),
@@ -225,6 +234,7 @@ pub fn read(input: &[u8]) -> Reading {
         message_trailers,
         block_start: body.without_trailer().len(),
         ending: body_ending(input),
+        walk_start: Cursor::of(input, body.without_trailer().len()),
         filtered: FILTERS.map(|filter| match trailers[..] {
             [] => Vec::new(),
             _ => through(input, body.trailers(), filter, &trailers),
@@ -234,6 +244,10 @@ pub fn read(input: &[u8]) -> Reading {
             .map(|trailer| attribution(trailer.token.of(input)))
             .collect(),
         blocks: blocks_of(input, body),
+        cursors: places(input.len())
+            .into_iter()
+            .map(|at| Cursor::of(input, at))
+            .collect(),
         steps: places(input.len()).into_iter().map(|at| step(input, at)).collect(),
         block_steps: block_cursors(input.len())
             .into_iter()
@@ -308,28 +322,38 @@ fn value(input: &[u8], answer: Cow<'_, BStr>) -> Value {
     }
 }
 
-fn next(input: &[u8], walk: &mut Trailers<'_>) -> Option<Trailer> {
+/// The cursor, which is at most where the walk is, goes on with it.
+fn next(input: &[u8], cursor: &mut Cursor, walk: &mut Trailers<'_>) -> Option<Trailer> {
     let trailer = walk.next()?;
     let token = part(input, trailer.token);
     let next = part(input, original::rest(walk)).start;
+    let here = cursor.moved_on(input, token.start);
+    *cursor = here.moved_on(input, next);
     Some(Trailer {
         token,
         value: value(input, trailer.value),
         next,
         ending: ending(&input[token.start..next]),
+        line: here.line,
+        next_line: cursor.line,
     })
 }
 
-fn all(input: &[u8], mut walk: Trailers<'_>) -> Vec<Trailer> {
+fn all(input: &[u8], walk: Trailers<'_>) -> Vec<Trailer> {
+    let mut cursor = Cursor::FRONT;
+    all_from(input, &mut cursor, walk)
+}
+
+fn all_from(input: &[u8], cursor: &mut Cursor, mut walk: Trailers<'_>) -> Vec<Trailer> {
     let mut trailers = Vec::new();
-    while let Some(trailer) = next(input, &mut walk) {
+    while let Some(trailer) = next(input, cursor, &mut walk) {
         trailers.push(trailer);
     }
     trailers
 }
 
 /// A filter hides where the walk behind it stands, and with it how the trailer's last line ends; the same trailer of the
-/// open walk tells them.
+/// open walk tells them, and the numbers of the lines.
 fn with_next<'a>(input: &[u8], walked: &[Trailer], kept: impl Iterator<Item = TrailerRef<'a>>) -> Vec<Trailer> {
     let mut walked = walked.iter();
     kept.map(|trailer| {
@@ -342,6 +366,8 @@ fn with_next<'a>(input: &[u8], walked: &[Trailer], kept: impl Iterator<Item = Tr
             value: value(input, trailer.value),
             next: step.next,
             ending: step.ending,
+            line: step.line,
+            next_line: step.next_line,
         }
     })
     .collect()
@@ -455,8 +481,26 @@ mod tests {
         assert_eq!(filtered(body, Filter::AssistedBy), []);
 
         let message = [b"t\n\n", &body[..]].concat();
-        let moved: Vec<Trailer> = authors.into_iter().map(|trailer| trailer.moved(3)).collect();
+        let moved: Vec<Trailer> = authors.into_iter().map(|trailer| trailer.moved(3, 2)).collect();
         assert_eq!(message_filtered(&message, Filter::Authors), moved);
+    }
+
+    #[test]
+    fn lines_are_counted_by_their_lfs() {
+        let lines = |trailers: Vec<Trailer>| -> Vec<(usize, usize)> {
+            trailers
+                .iter()
+                .map(|trailer| (trailer.line, trailer.next_line))
+                .collect()
+        };
+        let body = b"x\r\n\nA: b\rc\n d\nSigned-off-by: e\nx\nF: g";
+        assert_eq!(lines(trailers(body)), [(3, 5), (5, 6), (7, 7)]);
+        assert_eq!(lines(filtered(body, Filter::Authors)), [(5, 6)]);
+        let by_block: Vec<_> = blocks(body).into_iter().map(|block| lines(block.trailers)).collect();
+        assert_eq!(by_block, [vec![(3, 5), (5, 6)], vec![(7, 7)]]);
+        assert_eq!(find(body, b"f").unwrap().line, 7);
+        let message = [b"t\nu\n\n", &body[..]].concat();
+        assert_eq!(lines(message_trailers(&message)), [(6, 8), (8, 9), (10, 10)]);
     }
 
     #[test]

@@ -1,4 +1,4 @@
-//! The port's answers, put together from its nine calls as include/sluicepod.h describes them.
+//! The port's answers, put together from its calls as include/sluicepod.h describes them.
 //!
 //! What the original has nothing to set against is held to the header's own words on every input: which entries of a
 //! result are written, what a buffer holds afterwards, and each refusal. Where the port does not keep them, there is no
@@ -8,8 +8,8 @@ use std::array;
 
 use crate::{
     answers::{
-        block_cursors, names, places, Answer, Attribution, Block, Ending, Filter, NoReading, Part, Reading, Trailer,
-        Value, FILTERS, LIMIT,
+        block_cursors, names, places, Answer, Attribution, Block, Cursor, Ending, Filter, NoReading, Part, Reading,
+        Trailer, Value, FILTERS, LIMIT,
     },
     archive::{
         self, ACKED_BY, ALL, ASSISTED_BY, ATTRIBUTION, AUTHOR, BAD_PLACE, CO_AUTHORED_BY, CR, CR_LF, LF, NO_ENDING,
@@ -29,7 +29,9 @@ pub struct Calls {
     pub message_summary: fn(&Bytes, &mut Bytes, &mut Numbers) -> u32,
     pub block_start: fn(&Bytes, &mut Numbers) -> u32,
     pub message_trailers: fn(&Bytes, &mut Numbers) -> u32,
-    pub next_trailer: fn(&Bytes, usize, u32, &mut Bytes, &mut Numbers) -> u32,
+    pub body_trailers: fn(&Bytes, &mut Numbers) -> u32,
+    pub cursor_at: fn(&Bytes, usize, &mut Numbers) -> u32,
+    pub next_trailer: fn(&Bytes, Cursor, u32, &mut Bytes, &mut Numbers) -> u32,
     pub find_trailer: fn(&Bytes, &Bytes, &mut Bytes, &mut Numbers) -> u32,
     pub next_block: fn(&Bytes, usize, usize, &mut Numbers) -> u32,
     pub is_of_kind: fn(&Bytes, usize, usize, u32, &mut Numbers) -> u32,
@@ -41,6 +43,8 @@ pub const ARCHIVE: Calls = Calls {
     message_summary: archive::message_summary,
     block_start: archive::block_start,
     message_trailers: archive::message_trailers,
+    body_trailers: archive::body_trailers,
+    cursor_at: archive::cursor_at,
     next_trailer: archive::next_trailer,
     find_trailer: archive::find_trailer,
     next_block: archive::next_block,
@@ -67,11 +71,13 @@ impl Calls {
 
     fn read(&self, input: &[u8]) -> Answer {
         let (title_end, body_start) = self.title_and_body(input)?;
-        let message_walk_start = self.message_walk_start(input)?;
+        let message_walk_start = cursor(|result| (self.message_trailers)(input, result))?;
         let (block_start, ending) = self.block_start(input)?;
-        let trailers = self.walk(input, block_start, ALL)?;
+        let walk_start = cursor(|result| (self.body_trailers)(input, result))?;
+        let cursors = all(&places(input.len()), |&at| self.cursor_at(input, at))?;
+        let trailers = self.walk(input, walk_start, ALL)?;
         let attributions: Vec<Attribution> = all(&trailers, |trailer| self.attribution(input, trailer.token))?;
-        self.hold_other_kinds(input, block_start, &trailers, &attributions)?;
+        self.hold_other_kinds(input, walk_start, &trailers, &attributions)?;
         Ok(Reading {
             title_end,
             body_start,
@@ -82,10 +88,12 @@ impl Calls {
             message_filtered: self.filtered(input, message_walk_start)?,
             block_start,
             ending,
-            filtered: self.filtered(input, block_start)?,
+            walk_start,
+            filtered: self.filtered(input, walk_start)?,
             attributions,
             blocks: self.blocks(input, block_start)?,
-            steps: all(&places(input.len()), |&at| self.step(input, at, ALL))?,
+            steps: all(&cursors, |&cursor| self.step(input, cursor, ALL))?,
+            cursors,
             block_steps: all(&block_cursors(input.len()), |&(at, start)| {
                 self.block_step(input, at, start)
             })?,
@@ -109,7 +117,7 @@ impl Calls {
     }
 
     /// The walks by a kind for which the original has no filter: those of the trailers that are of the kind.
-    fn hold_other_kinds(&self, body: &[u8], start: usize, trailers: &[Trailer], are: &[Attribution]) -> Found<()> {
+    fn hold_other_kinds(&self, body: &[u8], start: Cursor, trailers: &[Trailer], are: &[Attribution]) -> Found<()> {
         type Is = fn(&Attribution) -> bool;
         let kinds: [(u32, Is); 3] = [
             (ACKED_BY, |token| token.acked_by),
@@ -143,39 +151,41 @@ impl Calls {
         }
     }
 
-    fn message_walk_start(&self, message: &[u8]) -> Found<usize> {
-        let told = told(|result| (self.message_trailers)(message, result))?;
-        match (told.code, told.values()) {
-            (OK, &[start]) => Ok(start),
-            _ => told.broke(),
-        }
+    fn cursor_at(&self, input: &[u8], at: usize) -> Found<Cursor> {
+        cursor(|result| (self.cursor_at)(input, at, result))
     }
 
-    fn step(&self, body: &[u8], at: usize, kind: u32) -> Found<Option<Trailer>> {
-        let (told, written) = asked(2, |out, result| (self.next_trailer)(body, at, kind, out, result))?;
+    /// At the end of a walk its number must be that of the body's end.
+    fn step(&self, body: &[u8], from: Cursor, kind: u32) -> Found<Option<Trailer>> {
+        let (told, written) = asked(2, |out, result| (self.next_trailer)(body, from, kind, out, result))?;
         match (told.code, told.values()) {
-            (OK, &[end]) if end == body.len() => Ok(None),
-            (OK, &[start, end, held, from, to, next, number]) => Ok(Some(Trailer {
+            (OK, &[at, line]) if at == body.len() && from.moved_on(body, at).line == line => Ok(None),
+            (OK, &[start, end, held, from, to, next, number, line, next_line]) => Ok(Some(Trailer {
                 token: part(body, start, end)?,
                 value: value(body, [held, from, to], written)?,
                 next,
                 ending: ending(number)?,
+                line,
+                next_line,
             })),
             _ => told.broke(),
         }
     }
 
-    fn walk(&self, body: &[u8], start: usize, kind: u32) -> Found<Vec<Trailer>> {
+    fn walk(&self, body: &[u8], start: Cursor, kind: u32) -> Found<Vec<Trailer>> {
         let mut trailers = Vec::new();
-        let mut at = start;
-        while let Some(trailer) = self.step(body, at, kind)? {
-            at = part(body, at + 1, trailer.next)?.end; // so the walk ends
+        let mut cursor = start;
+        while let Some(trailer) = self.step(body, cursor, kind)? {
+            cursor = Cursor {
+                at: part(body, cursor.at + 1, trailer.next)?.end, // so the walk ends
+                line: trailer.next_line,
+            };
             trailers.push(trailer);
         }
         Ok(trailers)
     }
 
-    fn filtered(&self, body: &[u8], start: usize) -> Found<[Vec<Trailer>; 5]> {
+    fn filtered(&self, body: &[u8], start: Cursor) -> Found<[Vec<Trailer>; 5]> {
         let mut walks = array::from_fn(|_| Vec::new());
         for (walk, filter) in walks.iter_mut().zip(FILTERS) {
             *walk = self.walk(body, start, kind_of(filter))?;
@@ -188,12 +198,18 @@ impl Calls {
         let (told, written) = asked(2, |out, result| (self.find_trailer)(body, name, out, result))?;
         match (told.code, told.values()) {
             (OK, &[]) => Ok(None),
-            (OK, &[start, end, held, from, to, number]) => Ok(Some(Trailer {
-                token: part(body, start, end)?,
-                value: value(body, [held, from, to], written)?,
-                next: self.step(body, start, ALL)?.map_or(start, |trailer| trailer.next),
-                ending: ending(number)?,
-            })),
+            (OK, &[start, end, held, from, to, number, line]) => {
+                let step = self.step(body, Cursor { at: start, line }, ALL)?;
+                let (next, next_line) = step.map_or((start, line), |trailer| (trailer.next, trailer.next_line));
+                Ok(Some(Trailer {
+                    token: part(body, start, end)?,
+                    value: value(body, [held, from, to], written)?,
+                    next,
+                    ending: ending(number)?,
+                    line,
+                    next_line,
+                }))
+            }
             _ => told.broke(),
         }
     }
@@ -209,23 +225,31 @@ impl Calls {
         }
     }
 
+    /// The trailers of a block are read by themselves; the port counts the lines above.
     fn blocks(&self, body: &[u8], block_start: usize) -> Found<Vec<Block>> {
         let mut blocks = Vec::new();
         let (mut at, mut start) = (0, block_start);
+        let mut lines = 0;
         while let Some((message, trailer_part)) = self.block_step(body, at, start)? {
-            let by_itself = self.walk(trailer_part.of(body), 0, ALL)?;
+            let by_itself = self.walk(trailer_part.of(body), Cursor::FRONT, ALL)?;
             at = part(body, at + 1, trailer_part.end)?.end; // so the walk ends
             start = at;
+            let above = lines + self.lfs(message.of(body))?;
+            lines = above + self.lfs(trailer_part.of(body))?;
             blocks.push(Block {
                 message,
                 trailer_part,
                 trailers: by_itself
                     .into_iter()
-                    .map(|trailer| trailer.moved(trailer_part.start))
+                    .map(|trailer| trailer.moved(trailer_part.start, above))
                     .collect(),
             });
         }
         Ok(blocks)
+    }
+
+    fn lfs(&self, part: &[u8]) -> Found<usize> {
+        Ok(self.cursor_at(part, part.len())?.line - 1)
     }
 
     /// Every kind is asked for; those that the original has no question for follow from the others.
@@ -269,7 +293,9 @@ impl Calls {
         visit(&|out, result| (self.message_summary)(input, out, result))?;
         visit(&|_, result| (self.block_start)(input, result))?;
         visit(&|_, result| (self.message_trailers)(input, result))?;
-        visit(&|out, result| (self.next_trailer)(input, 0, ALL, out, result))?;
+        visit(&|_, result| (self.body_trailers)(input, result))?;
+        visit(&|_, result| (self.cursor_at)(input, 0, result))?;
+        visit(&|out, result| (self.next_trailer)(input, Cursor::FRONT, ALL, out, result))?;
         visit(&|out, result| (self.find_trailer)(input, b"a", out, result))?;
         visit(&|_, result| (self.next_block)(input, 0, 0, result))?;
         visit(&|_, result| (self.is_of_kind)(input, 0, 0, ALL, result))
@@ -294,13 +320,31 @@ impl Calls {
         })
     }
 
-    /// Places that do not fit, and numbers that are no kind. The limit goes before a bad place, the kind before both.
+    /// Places that do not fit, numbers of lines that do not, and numbers that are no kind. The limit goes before a bad place, the kind before both.
     fn refuse_bad_places(&self, input: &[u8]) -> Found<()> {
         let len = input.len();
         let code = if len > LIMIT { TOO_LONG } else { BAD_PLACE };
+        let bad = [
+            (len + 1, 1),
+            (usize::MAX, 1),
+            (0, 0),
+            (0, 2),
+            (len / 2, 0),
+            (len / 2, len / 2 + 2),
+            (len, 0),
+            (len, len + 2),
+            (len, usize::MAX),
+            (usize::MAX, usize::MAX),
+        ];
+        for (at, line) in bad {
+            for kind in [ALL, AUTHOR] {
+                refused(code, |out, result| {
+                    (self.next_trailer)(input, Cursor { at, line }, kind, out, result)
+                })?;
+            }
+        }
         for at in [len + 1, usize::MAX] {
-            refused(code, |out, result| (self.next_trailer)(input, at, ALL, out, result))?;
-            refused(code, |out, result| (self.next_trailer)(input, at, AUTHOR, out, result))?;
+            refused(code, |_, result| (self.cursor_at)(input, at, result))?;
         }
         for (at, start) in [
             (len + 1, 0),
@@ -323,7 +367,9 @@ impl Calls {
         }
         for kind in [AUTHOR + 1, NO_KIND, u32::MAX] {
             for at in [0, len + 1] {
-                refused(NO_KIND, |out, result| (self.next_trailer)(input, at, kind, out, result))?;
+                refused(NO_KIND, |out, result| {
+                    (self.next_trailer)(input, Cursor { at, line: 0 }, kind, out, result)
+                })?;
                 refused(NO_KIND, |_, result| (self.is_of_kind)(input, at, at, kind, result))?;
             }
         }
@@ -384,6 +430,15 @@ fn told(call: impl FnOnce(&mut [usize]) -> u32) -> Found<Told> {
         return broke(format!("code {code} with the result {result:?}"));
     }
     Ok(Told { code, count, result })
+}
+
+/// One call that answers a cursor.
+fn cursor(call: impl FnOnce(&mut [usize]) -> u32) -> Found<Cursor> {
+    let told = told(call)?;
+    match (told.code, told.values()) {
+        (OK, &[at, line]) => Ok(Cursor { at, line }),
+        _ => told.broke(),
+    }
 }
 
 /// Asks for each of these.
@@ -496,10 +551,10 @@ mod tests {
     #[test]
     fn a_dropped_fold_is_caught() {
         /// Answers by the rules of a buffer, but only up to the first fold.
-        fn first_line_only(body: &[u8], at: usize, kind: u32, out: &mut [u8], result: &mut [usize]) -> u32 {
+        fn first_line_only(body: &[u8], from: Cursor, kind: u32, out: &mut [u8], result: &mut [usize]) -> u32 {
             let mut all = vec![0; body.len()];
-            let code = archive::next_trailer(body, at, kind, &mut all, result);
-            if code != OK || result[0] != 7 || result[3] == 0 {
+            let code = archive::next_trailer(body, from, kind, &mut all, result);
+            if code != OK || result[0] != 9 || result[3] == 0 {
                 return code;
             }
             let len = all[..result[5]]
@@ -524,9 +579,9 @@ mod tests {
 
     #[test]
     fn cr_lf_that_is_taken_for_lf_is_caught() {
-        fn unix_only(body: &[u8], at: usize, kind: u32, out: &mut [u8], result: &mut [usize]) -> u32 {
-            let code = archive::next_trailer(body, at, kind, out, result);
-            if code == OK && result[0] == 7 && result[7] == CR_LF {
+        fn unix_only(body: &[u8], from: Cursor, kind: u32, out: &mut [u8], result: &mut [usize]) -> u32 {
+            let code = archive::next_trailer(body, from, kind, out, result);
+            if code == OK && result[0] == 9 && result[7] == CR_LF {
                 result[7] = LF;
             }
             code
@@ -542,7 +597,7 @@ mod tests {
     fn the_trailer_line_s_ending_of_a_folded_trailer_is_caught() {
         fn first_line_s(body: &[u8], name: &[u8], out: &mut [u8], result: &mut [usize]) -> u32 {
             let code = archive::find_trailer(body, name, out, result);
-            if code == OK && result[0] == 6 {
+            if code == OK && result[0] == 7 {
                 let line = body[result[1]..].split_inclusive(|&byte| byte == b'\n').next();
                 result[6] = match line.unwrap_or_default() {
                     [.., b'\r', b'\n'] => CR_LF,
@@ -579,7 +634,7 @@ mod tests {
     fn a_lookup_by_exact_case_is_caught() {
         fn exact(body: &[u8], name: &[u8], out: &mut [u8], result: &mut [usize]) -> u32 {
             let code = archive::find_trailer(body, name, out, result);
-            if code == OK && result[0] == 6 && body[result[1]..result[2]] != *name {
+            if code == OK && result[0] == 7 && body[result[1]..result[2]] != *name {
                 result.fill(KEPT);
                 result[0] = 0;
             }
@@ -593,9 +648,89 @@ mod tests {
     }
 
     #[test]
+    fn a_folded_line_that_is_not_counted_is_caught() {
+        fn one_line_each(body: &[u8], from: Cursor, kind: u32, out: &mut [u8], result: &mut [usize]) -> u32 {
+            let code = archive::next_trailer(body, from, kind, out, result);
+            if code == OK && result[0] == 9 && result[9] > result[8] {
+                result[9] = result[8] + 1;
+            }
+            code
+        }
+        let faulty = Calls {
+            next_trailer: one_line_each,
+            ..ARCHIVE
+        };
+        assert_eq!(caught(&faulty), (b"a:\n a\n".to_vec(), "trailers"));
+    }
+
+    #[test]
+    fn a_title_that_is_not_counted_is_caught() {
+        fn of_the_body(message: &[u8], result: &mut [usize]) -> u32 {
+            let code = archive::message_trailers(message, result);
+            if code == OK && result[2] > 2 {
+                result[2] -= 2;
+            }
+            code
+        }
+        let faulty = Calls {
+            message_trailers: of_the_body,
+            ..ARCHIVE
+        };
+        assert_eq!(caught(&faulty), (b"\n\n".to_vec(), "message_walk_start"));
+    }
+
+    #[test]
+    fn a_lookup_that_counts_from_the_block_is_caught() {
+        fn of_the_block(body: &[u8], name: &[u8], out: &mut [u8], result: &mut [usize]) -> u32 {
+            let code = archive::find_trailer(body, name, out, result);
+            if code == OK && result[0] == 7 {
+                let mut start = [KEPT; RESULT_LEN];
+                archive::body_trailers(body, &mut start);
+                result[7] -= start[2] - 1;
+            }
+            code
+        }
+        let faulty = Calls {
+            find_trailer: of_the_block,
+            ..ARCHIVE
+        };
+        assert_eq!(caught(&faulty), (b"\n\n\na:".to_vec(), "found"));
+    }
+
+    #[test]
+    fn a_cr_alone_that_is_counted_is_caught() {
+        fn counts_crs(input: &[u8], at: usize, result: &mut [usize]) -> u32 {
+            let code = archive::cursor_at(input, at, result);
+            if code == OK {
+                let alone = |pair: &&[u8]| pair[0] == b'\r' && pair[1] != b'\n';
+                result[2] += input[..at].windows(2).filter(alone).count();
+            }
+            code
+        }
+        let faulty = Calls {
+            cursor_at: counts_crs,
+            ..ARCHIVE
+        };
+        assert_eq!(caught(&faulty), (b"\ra".to_vec(), "cursors"));
+    }
+
+    #[test]
+    fn a_number_that_is_forgiven_is_caught() {
+        fn forgives(body: &[u8], from: Cursor, kind: u32, out: &mut [u8], result: &mut [usize]) -> u32 {
+            let line = from.line.max(1);
+            archive::next_trailer(body, Cursor { line, ..from }, kind, out, result)
+        }
+        let faulty = Calls {
+            next_trailer: forgives,
+            ..ARCHIVE
+        };
+        assert_eq!(caught(&faulty), (Vec::new(), "refusal"));
+    }
+
+    #[test]
     fn a_kind_for_which_the_original_has_no_filter_is_held_too() {
-        fn tests_nothing(body: &[u8], at: usize, kind: u32, out: &mut [u8], result: &mut [usize]) -> u32 {
-            archive::next_trailer(body, at, if kind == TESTED_BY { ALL } else { kind }, out, result)
+        fn tests_nothing(body: &[u8], from: Cursor, kind: u32, out: &mut [u8], result: &mut [usize]) -> u32 {
+            archive::next_trailer(body, from, if kind == TESTED_BY { ALL } else { kind }, out, result)
         }
         let faulty = Calls {
             next_trailer: tests_nothing,

@@ -2,7 +2,7 @@
 
 use std::hint::black_box;
 
-use compare::answers::Part;
+use compare::answers::{Cursor, Part};
 use original::commit::message::BodyRef;
 
 use crate::{
@@ -103,21 +103,22 @@ pub fn of_body(shape: &Shape) -> Vec<Row> {
     rows
 }
 
-/// The walks from the block's start on, which is not looked for anew.
+/// The walks from the block's start on, which is not looked for anew, and neither is the number of its line.
 fn walks(body: &[u8]) -> [Row; 3] {
     let out = &mut vec![0; body.len()][..];
     let parsed = BodyRef::from_bytes(body);
     let start = parsed.without_trailer().len();
+    let cursor = Cursor::of(body, start);
     [
         row(
             "trailer walk",
             || theirs::walk(black_box(parsed).trailers()),
-            || ours::walk(black_box(body), start, out),
+            || ours::walk(black_box(body), cursor, out),
         ),
         row(
             "sign-off walk",
             || theirs::walk_signed_off_by(black_box(parsed).trailers()),
-            || ours::walk_signed_off_by(black_box(body), start, out),
+            || ours::walk_signed_off_by(black_box(body), cursor, out),
         ),
         row(
             "block walk",

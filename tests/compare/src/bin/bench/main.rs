@@ -6,6 +6,7 @@
 //!     bench divider      the end of a message above its divider alone; fails where it takes more than twice as long as a search
 //!                        for the message's LFs
 //!     bench additions    a trailer added to a message alone
+//!     bench lines        the count of LFs beside libc's memchr alone
 //!
 //! The mailbox call, which the original does not have, is timed by itself, on a mebibyte and on half of it.
 //!
@@ -18,6 +19,7 @@ mod commits;
 mod divider;
 #[cfg(feature = "libgit2")]
 mod libgit2;
+mod lines;
 mod mailbox;
 mod night;
 mod race;
@@ -44,6 +46,7 @@ fn main() -> ExitCode {
         ["commits"] => |_: &[Shape]| commit_table(),
         ["divider"] => return divider_table(),
         ["additions"] => |_: &[Shape]| addition_table(),
+        ["lines"] => |_: &[Shape]| lines_table(),
         _ => {
             eprintln!("bench: no such option");
             return ExitCode::FAILURE;
@@ -75,6 +78,9 @@ fn plain(shapes: &[Shape]) {
     }
     for commits::Row { header, call, race } in commits::rows() {
         line(&format!("commit object: {call}"), header, &race);
+    }
+    for (name, race) in lines::rows() {
+        line("LFs counted, beside memchr", name, &race);
     }
     for (name, half, whole) in mailbox::rows() {
         println!(
@@ -116,6 +122,7 @@ fn markdown(shapes: &[Shape]) {
     commit_table();
     divider_table();
     addition_table();
+    lines_table();
 }
 
 /// A trailer added: how many times as long as a copy of the message it takes.
@@ -126,6 +133,19 @@ fn addition_table() {
             "| {message} | {:.0} | {:.0} | {:.2} |",
             race.original,
             race.ours,
+            1.0 / race.ratio
+        );
+    }
+}
+
+/// Numbers from the top: how many times as long as memchr's pass over the text the count of its LFs takes.
+fn lines_table() {
+    println!("\n| 1 MiB of | memchr, µs | LFs counted, µs | times as long |\n|---|---:|---:|---:|");
+    for (name, race) in lines::rows() {
+        println!(
+            "| {name} | {:.1} | {:.1} | {:.2} |",
+            race.original / 1_000.0,
+            race.ours / 1_000.0,
             1.0 / race.ratio
         );
     }

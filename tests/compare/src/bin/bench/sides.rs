@@ -124,7 +124,7 @@ pub mod theirs {
 pub mod ours {
     use super::taken;
     use compare::{
-        answers::Part,
+        answers::{Cursor, Part},
         archive::{self, ALL, ATTRIBUTION, OK, RESULT_LEN, SIGNED_OFF_BY},
     };
 
@@ -154,7 +154,7 @@ pub mod ours {
     pub fn message_trailers(message: &[u8], out: &mut [u8]) -> u64 {
         let mut result = [0; RESULT_LEN];
         assert_eq!(archive::message_trailers(message, &mut result), OK);
-        walk(message, result[1], out)
+        walk(message, cursor(result[1], result[2]), out)
     }
 
     #[inline(never)]
@@ -165,12 +165,12 @@ pub mod ours {
     }
 
     #[inline(never)]
-    pub fn walk(body: &[u8], start: usize, out: &mut [u8]) -> u64 {
+    pub fn walk(body: &[u8], start: Cursor, out: &mut [u8]) -> u64 {
         sum(body, start, ALL, out)
     }
 
     #[inline(never)]
-    pub fn walk_signed_off_by(body: &[u8], start: usize, out: &mut [u8]) -> u64 {
+    pub fn walk_signed_off_by(body: &[u8], start: Cursor, out: &mut [u8]) -> u64 {
         sum(body, start, SIGNED_OFF_BY, out)
     }
 
@@ -180,29 +180,33 @@ pub mod ours {
     pub fn message_trailers_counted(message: &[u8], out: &mut [u8]) -> u64 {
         let mut result = [0; RESULT_LEN];
         assert_eq!(archive::message_trailers(message, &mut result), OK);
-        let mut from = result[1];
+        let mut from = cursor(result[1], result[2]);
         let mut count = 0;
         loop {
             assert_eq!(archive::next_trailer(message, from, ALL, out, &mut result), OK);
-            if result[0] == 1 {
+            if result[0] == 2 {
                 return count;
             }
-            from = result[6];
+            from = cursor(result[6], result[9]);
             count += 1;
         }
     }
 
-    fn sum(body: &[u8], start: usize, kind: u32, out: &mut [u8]) -> u64 {
+    fn cursor(at: usize, line: usize) -> Cursor {
+        Cursor { at, line }
+    }
+
+    fn sum(body: &[u8], start: Cursor, kind: u32, out: &mut [u8]) -> u64 {
         let mut result = [0; RESULT_LEN];
         let mut from = start;
         let mut sum = 0;
         loop {
             assert_eq!(archive::next_trailer(body, from, kind, out, &mut result), OK);
-            if result[0] == 1 {
+            if result[0] == 2 {
                 return sum;
             }
             sum = taken(taken(sum, &body[result[1]..result[2]]), at(body, out, &result[3..]));
-            from = result[6];
+            from = cursor(result[6], result[9]);
         }
     }
 
