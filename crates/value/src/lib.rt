@@ -62,6 +62,16 @@ fn unfolded_len(value: &[u8]) -> usize
     len
 }
 
+// How many bytes are written of a raw value.
+pub fn written_len(value: &[u8]) -> usize
+    ensures { λ r. ⌜ r ≡ length (writtenOf (now (value .entry))) ⌝ }
+{
+    if is_folded(value) {
+        return unfolded_len(value);
+    }
+    0
+}
+
 // Joins `line` by one space to the first `len` bytes of `out`, where neither is empty, and answers the length.
 fn push_line(line: &[u8], out: &mut [u8], len: usize) -> usize
     requires { ⌜ len ≤ length (now out) ⌝ }
