@@ -1,0 +1,3 @@
+-- Laws of records as numbers.
+pub mod Seven
+pub mod Examples

@@ -1,0 +1,106 @@
+// The listing as numbers, for C and Rust: the table is a slice of numbers, seven a record.
+ghost use mathlib.Core.Path.{_≡_};
+ghost use Prim.Native.Nat.{_+_, _/_, _≤_};
+ghost use lib.ListN.{length};
+ghost use lib.Seq.{paste};
+ghost use Rattle.rules.specs.Answers.{endingSays};
+ghost use Rattle.listing.specs.Answers.{listAnswer, listBuffer, listingSays};
+ghost use Rattle.listing.specs.Turns.{onto};
+ghost use Rattle.flat.specs.Flat.{flatTable, numbersOf, width};
+use listing::Listing;
+use planning::list_step;
+use planning::plan_from;
+use rules::Cursor;
+use rules::Ending;
+use rules::TrailerRef;
+use rules::Value;
+
+// How many numbers a record has.
+pub const WIDTH: usize = 7;
+
+// An ending's number.
+fn ending_number(ending: Ending) -> usize
+    ensures { λ r. ⌜ r ≡ endingSays ending ⌝ }
+{
+    match ending {
+        Ending::Lf => 0,
+        Ending::CrLf => 1,
+        Ending::Cr => 2,
+        Ending::None => 3,
+    }
+}
+
+// The numbers of a record: its token's range, 0 or 1 and the range of its value, its ending, its line.
+fn numbers_of(found: TrailerRef) -> [usize; 7]
+    ensures { λ r. ⌜ r ≡ numbersOf found ⌝ }
+{
+    let token = found.token;
+    let value = found.value;
+    let how = found.ending;
+    let ending = ending_number(how);
+    match value {
+        Value::InInput(part) => [
+            token.start,
+            token.end,
+            0,
+            part.start,
+            part.end,
+            ending,
+            found.line,
+        ],
+        Value::InBuffer(part) => [
+            token.start,
+            token.end,
+            1,
+            part.start,
+            part.end,
+            ending,
+            found.line,
+        ],
+    }
+}
+
+// Copies all of `src` into `table` from `at` on.
+fn copy_numbers(src: &[usize], table: &mut [usize], at: usize)
+    requires { ⌜ at + length (now src) ≤ length (now table) ⌝ }
+    ensures { λ _. ⌜ now (table .exit) ≡ paste (now (table .entry)) at (now (src .entry)) (length (now (src .entry))) ⌝ }
+{
+    let mut i = 0;
+    while i < src.len() {
+        table[at + i] = src[i];
+        i += 1;
+    }
+}
+
+// Puts the numbers of a record into `table` from `at` on.
+fn put_record(found: TrailerRef, table: &mut [usize], at: usize)
+    requires { ⌜ at + width ≤ length (now table) ⌝ }
+    ensures { λ _. ⌜ now (table .exit) ≡ onto at (numbersOf found) (now (table .entry)) ⌝ }
+{
+    let numbers = numbers_of(found);
+    copy_numbers(&numbers, table, at);
+}
+
+// All trailers from the cursor on: their records into `table`, their unfolded values one behind another into `out`.
+pub fn list_from(input: &[u8], cursor: Cursor, table: &mut [usize], out: &mut [u8]) -> Listing
+    ensures { λ r. ⌜ listingSays r ≡ listAnswer (now (input .entry)) cursor (length (now (table .entry)) / width) (length (now (out .entry))) ⌝ }
+    ensures { λ _. ⌜ now (table .exit) ≡ flatTable (now (input .entry)) cursor (length (now (out .entry))) (now (table .entry)) ⌝ }
+    ensures { λ _. ⌜ now (out .exit) ≡ listBuffer (now (input .entry)) cursor (length (now (table .entry)) / width) (now (out .entry)) ⌝ }
+{
+    let plan = plan_from(input, cursor, table.len() / WIDTH, out.len());
+    let n = plan.n;
+    let mut spot = plan.start;
+    let mut i: usize = 0;
+    let mut at: usize = 0;
+    while i < n {
+        let step = list_step(input, spot, out);
+        let found = step.found;
+        put_record(found, table, at);
+        let next = step.next;
+        spot = next;
+        at += WIDTH;
+        i += 1;
+    }
+    let outcome = plan.outcome;
+    outcome
+}

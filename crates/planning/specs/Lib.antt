@@ -1,0 +1,2 @@
+-- What the parts of a listing answer.
+pub mod Planning
