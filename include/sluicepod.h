@@ -14,6 +14,8 @@
  *     SLUICEPOD_BAD_PLACE      a position is past the input, a range does not fit in it, or a line's number cannot be that
  *                              of the position
  *     SLUICEPOD_NO_ROOM        `out` is shorter than what is to be written; the exact length needed is the one value
+ *     SLUICEPOD_SHORT_TABLE    a table has fewer entries than records are to be listed; both counts are the values, and
+ *                              so they are of the NO_ROOM of a listing
  *     SLUICEPOD_BAD_TOKEN      a token that is not letters, digits or hyphens, at least one
  *     SLUICEPOD_BAD_VALUE      a value that has an LF, or white space at an end
  *     SLUICEPOD_NOTHING_TO_STAND_ON
@@ -30,12 +32,12 @@
  *     SLUICEPOD_NO_KIND        `kind` is no enum sluicepod_kind
  *     SLUICEPOD_SHORT_RESULT   `result` has fewer than SLUICEPOD_RESULT_LEN entries
  * Where several hold, the code is the first of SHORT_RESULT, NO_READING, NO_KIND, TOO_LONG, BAD_PLACE, NO_ROOM, BAD_HEADER,
- * NOT_A_MAILBOX; the calls on bundles, and the one that adds a trailer, have an order of their own, below.
+ * NOT_A_MAILBOX; the calls on bundles, the listings, and the call that adds a trailer have an order of their own, below.
  *
  * Result. The values of an answer are written to the front of `result`: result[0] says how many there are, and
  * result[1], result[2], .. are the values, in the order that each call gives below. Entries behind them are kept.
  * The refusals TOO_LONG, BAD_PLACE, BAD_TOKEN, BAD_VALUE, NOTHING_TO_STAND_ON, NOT_A_BUNDLE, NO_READING and NO_KIND have
- * no values (result[0] is 0), the others have one.
+ * no values (result[0] is 0), those for want of room in a listing have two, the others have one.
  * SHORT_RESULT alone writes nothing, neither to `result` nor to `out`. Every call asks for the same SLUICEPOD_RESULT_LEN
  * entries.
  *
@@ -80,6 +82,7 @@ enum sluicepod_code {
     SLUICEPOD_TOO_LONG = 1,
     SLUICEPOD_BAD_PLACE = 2,
     SLUICEPOD_NO_ROOM = 3,
+    SLUICEPOD_SHORT_TABLE = 4,
     SLUICEPOD_BAD_TOKEN = 5,
     SLUICEPOD_BAD_VALUE = 6,
     SLUICEPOD_NOTHING_TO_STAND_ON = 7,
@@ -289,6 +292,23 @@ uint32_t sluicepod_may_erase(const uint8_t *message, size_t message_len, uint32_
 uint32_t sluicepod_add_trailer(const uint8_t *message, size_t message_len, const uint8_t *token, size_t token_len,
                                const uint8_t *value, size_t value_len, uint8_t *out, size_t out_len, size_t *result,
                                size_t result_len);
+/* ---- All trailers at once
+ *
+ * A table is lent as numbers, SLUICEPOD_RECORD_LEN for each record; numbers at its end that are too few for a record are
+ * not used. A record is: the token's start, the token's end, the value's place (three), an enum sluicepod_ending, that of
+ * the trailer's last line, and the number of the line where the trailer starts. The calls refuse in the order
+ * SHORT_RESULT, TOO_LONG, BAD_PLACE, SHORT_TABLE, NO_ROOM; a refusal writes neither to `table` nor to `out`. */
+
+/* How many numbers of a table each record has. */
+#define SLUICEPOD_RECORD_LEN 7
+
+/* All trailers from the position `at` on, which stands on the line with the number `line`: as sluicepod_next_trailer gives
+ * them, called until the end. Folded values are written to `out` one behind another, and their places count from its
+ * front. Entries of `table` and bytes of `out` behind what is written are kept. With a table of no entries and no room
+ * the call tells what is needed.
+ * Values: how many records and how many bytes were written; with SHORT_TABLE and NO_ROOM, how many are needed. */
+uint32_t sluicepod_list_from(const uint8_t *input, size_t input_len, size_t at, size_t line, size_t *table,
+                             size_t table_len, uint8_t *out, size_t out_len, size_t *result, size_t result_len);
 
 #ifdef __cplusplus
 }

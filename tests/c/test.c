@@ -328,6 +328,7 @@ static void short_results(void) {
 #include "readings.c"
 #include "closing.c"
 #include "additions.c"
+#include "lists.c"
 
 int main(void) {
     titles_and_summaries();
@@ -346,6 +347,7 @@ int main(void) {
     readings();
     closing();
     additions();
+    lists();
     printf("tests/c: %d checks, %d failed\n", checks, failures);
     return failures != 0;
 }

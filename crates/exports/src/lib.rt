@@ -4,6 +4,7 @@ pub mod additions;
 pub mod bundles;
 pub mod closings;
 pub mod commits;
+pub mod lists;
 pub mod readings;
 pub mod who;
 
