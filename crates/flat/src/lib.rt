@@ -3,32 +3,19 @@ ghost use mathlib.Core.Path.{_≡_};
 ghost use Prim.Native.Nat.{_+_, _/_, _≤_};
 ghost use lib.ListN.{length};
 ghost use lib.Seq.{paste};
-ghost use Rattle.rules.specs.Answers.{endingSays};
 ghost use Rattle.listing.specs.Answers.{listAnswer, listBuffer, listingSays};
 ghost use Rattle.listing.specs.Turns.{onto};
 ghost use Rattle.flat.specs.Flat.{flatTable, numbersOf, width};
 use listing::Listing;
+use numbers::ending_number;
 use planning::list_step;
 use planning::plan_from;
 use rules::Cursor;
-use rules::Ending;
 use rules::TrailerRef;
 use rules::Value;
 
 // How many numbers a record has.
 pub const WIDTH: usize = 7;
-
-// An ending's number.
-fn ending_number(ending: Ending) -> usize
-    ensures { λ r. ⌜ r ≡ endingSays ending ⌝ }
-{
-    match ending {
-        Ending::Lf => 0,
-        Ending::CrLf => 1,
-        Ending::Cr => 2,
-        Ending::None => 3,
-    }
-}
 
 // The numbers of a record: its token's range, 0 or 1 and the range of its value, its ending, its line.
 fn numbers_of(found: TrailerRef) -> [usize; 7]

@@ -98,7 +98,7 @@ fn place_of(value: Value) -> Place
 }
 
 // How a line ended, as a number.
-fn ending_number(ending: Ending) -> usize
+pub fn ending_number(ending: Ending) -> usize
     ensures { λ r. ⌜ r ≡ endingSays ending ⌝ }
 {
     match ending {
