@@ -3,11 +3,14 @@ use mathlib.Core.Bool.{Bool, true, false, false≢true, or-assoc, or-false, _||_
 use mathlib.Core.List.{List, [], _∷_}
 use mathlib.Core.Path.{_≡_, refl, sym, ap, _∙_}
 use Prim.Native.Nat.{ℕ, zero, suc, _+_, _-_, _≤_, _<_}
+use native.Mathlib.Numerals.{add-one}
 use native.Mathlib.Omega.{arith}
-use lib.ListN.{length, take, drop, getD}
+use borrow.Author.Tests.{eq-eqb, ne-eqb}
+use lib.ListN.{length, take, drop, getD, drop-of-length-le, length-drop}
 use lib.Seq.{drop-cons, drop-drop}
 use mir.Val.{boolByte}
 use Rattle.rules.proofs.Number.{feeds-split}
+use Rattle.rules.specs.Bytes.{LF}
 use Rattle.rules.specs.Lists.{if_then_else_, any}
 use Rattle.rules.specs.Number.{lineFeeds}
 use Rattle.find.specs.Find.{behindLF, isLF, untilLF}
@@ -21,6 +24,16 @@ pub any-next : (p : ℕ → Bool) (s : List ℕ) (i : ℕ) → i < length s → 
 any-next p [] i h = absurd (omega arith)
 any-next p (x ∷ s) zero h = or-false (p x)
 any-next p (x ∷ s) (suc i) h = ap (λ (b : Bool). p x || b) (any-next p s i (omega arith)) ∙ sym (or-assoc (p x) (any p (take i s)) (p (getD s i 0)))
+
+-- one byte more of a search forward: an LF, another byte, none
+pub ends : (s : List ℕ) (i : ℕ) → i < length s → getD s i 0 ≡ LF → untilLF (drop i s) ≡ 0
+ends s i h e = rw (drop-cons s i 0, eq-eqb _ _ e)
+
+pub goes : (s : List ℕ) (i : ℕ) → i < length s → (getD s i 0 ≡ LF → ⊥) → untilLF (drop i s) ≡ suc (untilLF (drop (i + 1) s))
+goes s i h n = rw (add-one i, drop-cons s i 0, ne-eqb _ _ n)
+
+pub over : (s : List ℕ) (i : ℕ) → length s ≤ i → untilLF (drop i s) ≡ 0
+over s i h = rw (drop-of-length-le s h)
 
 -- a run is a part of what is searched: of `k` bytes from `i` on
 pub past-run : (k : ℕ) (s : List ℕ) (i : ℕ) → i + k ≤ length s → any isLF (take k (drop i s)) ≡ false
@@ -40,6 +53,49 @@ before-run (suc k) s i h e =
     let later : behindLF s (suc i) ≡ behindLF s (suc i + k) = before-run k s (suc i) (omega arith) (n .1) in
     let size : i + suc k ≡ suc i + k = omega arith in
     rw size (rw (n .0) at later)
+
+-- ---- the end of a search forward
+
+pub until-fits : (s : List ℕ) (i : ℕ) → i ≤ length s → i + untilLF (drop i s) ≤ length s
+until-fits s i h = omega (arith, within (drop i s), length-drop i s)
+  where
+    within : (t : List ℕ) → untilLF t ≤ length t
+    within [] = omega arith
+    within (x ∷ t) = by (isLF x) refl (within t)
+      where
+        by : (b : Bool) → isLF x ≡ b → untilLF t ≤ length t → untilLF (x ∷ t) ≤ suc (length t)
+        by true q r = rw q (omega arith)
+        by false q r = rw q (omega arith)
+
+-- an LF in the run at `i` is the next one
+pub in-run : (k : ℕ) (s : List ℕ) (i : ℕ) → any isLF (take k (drop i s)) ≡ true → untilLF (take k (drop i s)) ≡ untilLF (drop i s)
+in-run k s i e = among (drop i s) k e
+  where
+    among : (t : List ℕ) (k : ℕ) → any isLF (take k t) ≡ true → untilLF (take k t) ≡ untilLF t
+    among t zero e = absurd (false≢true e)
+    among [] (suc k) e = refl
+    among (x ∷ t) (suc k) e = by (isLF x) refl (among t k)
+      where
+        by : (b : Bool) → isLF x ≡ b → (any isLF (take k t) ≡ true → untilLF (take k t) ≡ untilLF t) → untilLF (x ∷ take k t) ≡ untilLF (x ∷ t)
+        by true q r = rw q
+        by false q r = rw q (ap suc (r (rw q at e)))
+
+-- no LF stands in the last bytes
+pub to-end : (s : List ℕ) (at i : ℕ) → at ≤ i → i ≤ length s → any isLF (drop at s) ≡ false → i + untilLF (drop i s) ≡ length s
+to-end s at i h l e =
+    let d = i - at in let there : at + d ≡ i = omega arith in
+    let behind : drop d (drop at s) ≡ drop i s = drop-drop d at s ∙ ap (λ (n : ℕ). drop n s) there in
+    let n = none (drop i s) (rw behind at (dropped d (drop at s) e)) in
+    omega (arith, n, length-drop i s)
+  where
+    dropped : (d : ℕ) (t : List ℕ) → any isLF t ≡ false → any isLF (drop d t) ≡ false
+    dropped zero t e = e
+    dropped (suc d) [] e = e
+    dropped (suc d) (x ∷ t) e = dropped d t (or-none (isLF x) (any isLF t) e .1)
+
+    none : (t : List ℕ) → any isLF t ≡ false → untilLF t ≡ length t
+    none [] e = refl
+    none (x ∷ t) e = let n = or-none (isLF x) (any isLF t) e in rw (n .0) (ap suc (none t (n .1)))
 
 -- ---- counted
 

@@ -2,9 +2,11 @@
 // not, so that the compiler reads all of it at once.
 pub mod count;
 
+ghost use mathlib.Core.Bool.{true, not, _&&_};
 ghost use mathlib.Core.Path.{_≡_};
-ghost use Prim.Native.Nat.{_+_, _≤_};
-ghost use lib.ListN.{length, drop};
+ghost use Prim.Native.Nat.{_+_, _-_, _≤_};
+ghost use lib.Dec.{leb};
+ghost use lib.ListN.{length, take, drop};
 ghost use Rattle.rules.specs.Lists.{any};
 ghost use Rattle.find.specs.Find.{behindLF, isLF, untilLF};
 
@@ -24,9 +26,10 @@ fn has_lf(run: &[u8]) -> bool
     found
 }
 
-// Where the runs without an LF that follow each other from `at` on end.
+// Where the runs without an LF that follow each other from `at` on end: an LF is in the run there, or no whole run is left.
 fn past_runs(s: &[u8], at: usize) -> usize
     requires { ⌜ at ≤ length (now s) ⌝ }
+    ensures { λ r. ⌜ (16 ≤ length (now (s .entry)) - r → any isLF (take 16 (drop r (now (s .entry)))) ≡ true) ⌝ }
     ensures { λ r. ⌜ (r ≤ length (now (s .entry))) × (r + untilLF (drop r (now (s .entry))) ≡ at + untilLF (drop at (now (s .entry)))) ⌝ }
 {
     let mut i = at;
@@ -39,19 +42,47 @@ fn past_runs(s: &[u8], at: usize) -> usize
     i
 }
 
-// The place of the first LF from `at` on; the end where there is none.
-pub fn find_lf(s: &[u8], at: usize) -> usize
-    requires { ⌜ at ≤ length (now s) ⌝ }
-    ensures { λ r. ⌜ r ≡ at + untilLF (drop at (now (s .entry))) ⌝ }
+// How many bytes of a short part stand before its first LF.
+fn until_lf(part: &[u8]) -> usize
+    ensures { λ r. ⌜ r ≡ untilLF (now (part .entry)) ⌝ }
 {
-    let mut i = past_runs(s, at);
-    while i < s.len() {
-        if s[i] == b'\n' {
+    let mut i = 0;
+    while i < part.len() {
+        if part[i] == b'\n' {
             return i;
         }
         i += 1;
     }
     i
+}
+
+// Whether the last 16 bytes, all of them from `at` on, have no LF.
+fn ends_without_lf(s: &[u8], at: usize) -> bool
+    requires { ⌜ at ≤ length (now s) ⌝ }
+    ensures { λ r. ⌜ r ≡ (leb 16 (length (now (s .entry)) - at) && not (any isLF (drop (length (now (s .entry)) - 16) (now (s .entry))))) ⌝ }
+{
+    let len = s.len();
+    if len - at < RUN {
+        return false;
+    }
+    !has_lf(&s[len - RUN..])
+}
+
+// The place of the first LF from `at` on; the end where there is none. Behind the last whole run the last 16 bytes are read as a
+// run once more, so that an end without an LF is passed over at once too.
+pub fn find_lf(s: &[u8], at: usize) -> usize
+    requires { ⌜ at ≤ length (now s) ⌝ }
+    ensures { λ r. ⌜ r ≡ at + untilLF (drop at (now (s .entry))) ⌝ }
+{
+    let len = s.len();
+    let i = past_runs(s, at);
+    if len - i >= RUN {
+        return i + until_lf(&s[i..i + RUN]);
+    }
+    if ends_without_lf(s, at) {
+        return len;
+    }
+    i + until_lf(&s[i..])
 }
 
 // Where the runs without an LF that end at `end` and before each other start.
