@@ -20,6 +20,7 @@ use rules::Cursor;
 use rules::Kind;
 use rules::LIMIT;
 use rules::Part;
+use rules::Places;
 use rules::Refusal;
 use rules::StartFound;
 use rules::TrailerFound;
@@ -57,10 +58,18 @@ pub fn next_trailer_of(body: &[u8], cursor: Cursor, kind: Kind, out: &mut [u8]) 
         return TrailerStep::End(move_on(body, cursor, len));
     };
     let start = places.start;
+    let token_end = places.token_end;
+    let value_start = places.value_start;
     let end = places.end;
     let here = move_on(body, cursor, start);
     let next = move_on(body, here, end);
-    let read = read_trailer(body, places, here.line, out);
+    let found = Places {
+        start,
+        token_end,
+        value_start,
+        end,
+    };
+    let read = read_trailer(body, found, here.line, out);
     match read {
         TrailerRead::Trailer(found) => TrailerStep::Trailer { found, next },
         TrailerRead::Refused(refusal) => TrailerStep::Refused(refusal),
@@ -217,8 +226,17 @@ pub fn find_trailer(body: &[u8], name: &[u8], out: &mut [u8]) -> TrailerFound
         return TrailerFound::NoSuchTrailer;
     };
     let start = places.start;
+    let token_end = places.token_end;
+    let value_start = places.value_start;
+    let end = places.end;
     let there = right_cursor(body, start);
-    let read = read_trailer(body, places, there.line, out);
+    let found = Places {
+        start,
+        token_end,
+        value_start,
+        end,
+    };
+    let read = read_trailer(body, found, there.line, out);
     match read {
         TrailerRead::Trailer(found) => TrailerFound::Trailer(found),
         TrailerRead::Refused(refusal) => TrailerFound::Refused(refusal),
