@@ -1,21 +1,22 @@
 -- The form at the end of an input, and the scans from the front and from the end: the laws that `white_len_last`, `trim_start`,
 -- `trim_end` and `trim` of src/white.rt go by. Assumes nothing.
-use mathlib.Core.Bool.{Bool, true, false, false≢true}
+use mathlib.Core.Bool.{Bool, true, false, false≢true, _&&_}
 use mathlib.Core.List.{List, [], _∷_, _++_, append-nil}
 use mathlib.Core.Path.{_≡_, refl, sym, ap, _∙_}
 use Prim.Native.Nat.{ℕ, zero, suc, _+_, _-_, _≤_, _<_}
 use native.Mathlib.Omega.{arith}
-use borrow.Author.Tests.{eq-eqb, eqb-true}
-use lib.Dec.{T, eqb, not-T}
+use borrow.Author.Tests.{eq-eqb, ne-eqb, eqb-true, ltb-true}
+use lib.Dec.{T, eqb, ltb, not-T}
 use lib.ListN.{length, take, drop, getD, length-append, length-drop, take-append-drop}
-use lib.Seq.{drop-append-seam, drop-drop, length-take-le, take-all, take-append-seam, take-take}
+use lib.Seq.{drop-append-seam, drop-drop, getD-take, length-take-le, take-all, take-append-seam, take-take}
 use Rattle.rules.specs.Lists.{if_then_else_, filled}
-use Rattle.rules.specs.White.{Form, formAt, trimStart, trimEnd, trim, trimAt}
+use Rattle.rules.specs.White.{whiteSpace, Form, formAt, trimStart, trimEnd, trim, trimAt}
 use Rattle.rules.proofs.Lists.{filled-some, is-false, is-true}
 use Rattle.rules.proofs.White.{EndsWithNone, form, bare, form-at, form-filled, form-length, front-trimmed}
 use Rattle.rules.proofs.White.{trimStart-step, trimStart-stop, trimEnd-step, trimEnd-stop}
-use Rattle.white.specs.White.{lastForm, formEnd}
-use Rattle.white.proofs.Forms.{formAt-fits, form-at-most-three, high-longer, low-alone}
+use Rattle.white.specs.White.{lastForm, formEnd, graphic}
+use Rattle.white.proofs.Forms.{formAt-fits, form-at-most-three, high-longer, low-alone, part-front}
+use Rattle.white.proofs.Utf8.{low-passed}
 use Rattle.rules.proofs.Parts.{rest}
 
 -- ---- a form at the end, or none
@@ -90,6 +91,41 @@ low-last s l h =
 
 pub high-last : (s : List ℕ) → 0x80 ≤ getD s (length s - 1) 0 → lastForm 1 s ≡ false
 high-last s l = not-last 1 s (omega arith) (λ f rest m e q. omega (arith, high-longer f rest m (rw e at l)))
+
+-- ---- a graphic byte at either end
+
+both-hold : (a b : Bool) → (a && b) ≡ true → (a ≡ true) × (b ≡ true)
+both-hold true b e = (refl, e)
+both-hold false b e = absurd (false≢true e)
+
+-- it is above every entry that is a form of one byte
+graphic-none : (s : List ℕ) → 0 < length s → graphic (getD s 0 0) ≡ true → formAt s ≡ 0
+unfolding whiteSpace
+graphic-none s h g =
+    let b = getD s 0 0 in
+    let (above, below) = both-hold (ltb 0x20 b) (ltb b 0x80) g in
+    let low : b < 0x80 = ltb-true b 0x80 below in
+    let high : 0x20 < b = ltb-true 0x20 b above in
+    sym (low-passed s h low (rw (
+      ne-eqb b 0x09 (λ e. omega arith),
+      ne-eqb b 0x0a (λ e. omega arith),
+      ne-eqb b 0x0b (λ e. omega arith),
+      ne-eqb b 0x0c (λ e. omega arith),
+      ne-eqb b 0x0d (λ e. omega arith),
+      ne-eqb b 0x20 (λ e. omega arith),
+    )))
+
+pub graphic-front : (s : List ℕ) (at : ℕ) → at < length s → graphic (getD s at 0) ≡ true → formAt (drop at s) ≡ 0
+graphic-front s at h g = graphic-none (drop at s) (omega (arith, length-drop at s)) (rw (part-front s at) g)
+
+pub graphic-last : (s : List ℕ) (end : ℕ) → 0 < end → end ≤ length s → graphic (getD s (end - 1) 0) ≡ true → formEnd (take end s) ≡ 0
+graphic-last s end z h g =
+    let l : length (take end s) ≡ end = length-take-le end s h in
+    let same : getD (take end s) (end - 1) 0 ≡ getD s (end - 1) 0 = getD-take end s (end - 1) 0 (omega arith) in
+    let k : graphic (getD (take end s) (length (take end s) - 1) 0) ≡ true = rw (l, same) g in
+    let (above, below) = both-hold (ltb 0x20 (getD (take end s) (length (take end s) - 1) 0)) (ltb (getD (take end s) (length (take end s) - 1) 0) 0x80) k in
+    low-last (take end s) (ltb-true _ _ below) (omega arith)
+    ∙ graphic-front (take end s) (length (take end s) - 1) (omega arith) k
 
 -- ---- the scan from the front: where it stands, as much is left to trim as at first
 

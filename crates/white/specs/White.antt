@@ -1,10 +1,10 @@
 -- A code point read from the front of an input, and a form at the end of one. What the lengths found have to do with the forms
 -- is proved (proofs/Utf8, found and passed; proofs/Scan, form-end).
-use mathlib.Core.Bool.{Bool}
+use mathlib.Core.Bool.{Bool, _&&_}
 use mathlib.Core.List.{List, _++_}
 use mathlib.Core.Path.{_≡_}
 use Prim.Native.Nat.{ℕ, _-_, _<_}
-use lib.Dec.{eqb}
+use lib.Dec.{eqb, ltb}
 use lib.ListN.{length, drop}
 use Rattle.rules.specs.Bytes.{within}
 use Rattle.rules.specs.Lists.{if_then_else_}
@@ -26,3 +26,7 @@ lastForm k s = eqb (formAt (drop (length s - k) s)) k
 -- the length of the form at the end; 0 where none is there. A form has at most three bytes.
 unfoldable pub formEnd : List ℕ → ℕ
 formEnd s = if lastForm 1 s then 1 else if lastForm 2 s then 2 else if lastForm 3 s then 3 else 0
+
+-- a byte above the space and below 0x80: no form begins or ends with it (proofs/Scan, graphic-front and graphic-last)
+abbrev pub graphic : ℕ → Bool
+graphic b = ltb 0x20 b && ltb b 0x80

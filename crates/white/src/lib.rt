@@ -5,7 +5,7 @@ ghost use lib.Dec.{eqb};
 ghost use lib.ListN.{length, take, drop, getD};
 ghost use Rattle.rules.specs.Lists.{any};
 ghost use Rattle.rules.specs.White.{whiteSpace, formAt, trimStart, trimEnd, trim, trimAt};
-ghost use Rattle.white.specs.White.{carries, Decoded, lastForm, formEnd};
+ghost use Rattle.white.specs.White.{carries, Decoded, lastForm, formEnd, graphic};
 use rules::Part;
 
 // White_Space of Unicode's PropList.txt, in its order. This table alone says what white space is.
@@ -217,12 +217,22 @@ pub fn white_len_last(s: &[u8]) -> usize
     0
 }
 
+// Whether a byte is above the space and below 0x80: no form begins or ends with it.
+fn is_graphic(byte: u8) -> bool
+    ensures { λ r. ⌜ r ≡ graphic byte ⌝ }
+{
+    (b' ' < byte) & (byte < 0x80)
+}
+
 // How many bytes of forms are at the front.
 pub fn trim_start(s: &[u8]) -> usize
     ensures { λ r. ⌜ r ≡ length (now (s .entry)) - length (trimStart (now (s .entry))) ⌝ }
 {
     let mut at = 0;
     while at < s.len() {
+        if is_graphic(s[at]) {
+            return at;
+        }
         let k = white_len(&s[at..]);
         if k == 0 {
             return at;
@@ -238,6 +248,9 @@ pub fn trim_end(s: &[u8]) -> usize
 {
     let mut end = s.len();
     while end > 0 {
+        if is_graphic(s[end - 1]) {
+            return end;
+        }
         let k = white_len_last(&s[..end]);
         if k == 0 {
             return end;
