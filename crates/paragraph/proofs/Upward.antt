@@ -3,18 +3,18 @@
 use mathlib.Core.Bool.{Bool, true, false}
 use mathlib.Core.List.{List, [], _∷_, _++_, append-assoc, append-nil}
 use mathlib.Core.Option.{some}
-use mathlib.Core.Path.{_≡_, refl, sym, ap, _∙_}
+use mathlib.Core.Path.{_≡_, refl, sym, ap, ap₂, _∙_}
 use Prim.Native.Nat.{ℕ, zero, suc, _+_, _-_, _≤_, _<_}
 use native.Mathlib.Omega.{arith}
-use lib.Dec.{T}
-use lib.ListN.{length, take, drop, length-append, length-drop}
-use lib.Seq.{drop-at, drop-length, length-take-le, take-add, take-length}
-use Rattle.rules.specs.Bytes.{blankByte}
-use Rattle.rules.specs.Lines.{Line, ending, lines, text}
+use lib.Dec.{T, eqb→eq}
+use lib.ListN.{length, take, drop, length-append, length-drop, take-append-drop}
+use lib.Seq.{drop-at, drop-length, length-take-le, take-add, take-length, take-take}
+use Rattle.rules.specs.Bytes.{CR, LF, blankByte}
+use Rattle.rules.specs.Lines.{Line, LineStart, ending, lines, text, without}
 use Rattle.rules.specs.Lists.{all, join}
 use Rattle.rules.specs.Paragraph.{lastEnding, solid, Body, put, parse}
 use Rattle.rules.proofs.LastEndings.{last-blank, last-solid}
-use Rattle.rules.proofs.Lines.{join-lines, lines-from, text-ending}
+use Rattle.rules.proofs.Lines.{join-lines, lines-from}
 use Rattle.rules.proofs.Lists.{cut-unique}
 use Rattle.find.specs.Find.{behindLF}
 use Rattle.text.specs.Lines.{lineStart}
@@ -82,11 +82,42 @@ module _ (body : List ℕ) (start end : ℕ) (s : start ≡ lineStart body end) 
 
 -- ---- where its text ends
 
+-- the text of a line below others drops what the text of all of them drops
+without-under : (x : ℕ) (a : List ℕ) (c : ℕ) (l : List ℕ) → without x (a ++ c ∷ l) ≡ a ++ without x (c ∷ l)
+without-under x [] c l = refl
+without-under x (b ∷ []) c l = refl
+without-under x (b ∷ d ∷ a) c l = ap (λ (t : List ℕ). b ∷ t) (without-under x (d ∷ a) c l)
+
+no-cr : (a : List ℕ) → LineStart a → without CR a ≡ a
+no-cr [] h = refl
+no-cr (c ∷ []) h = let e : c ≡ LF = eqb→eq c LF h in rw e
+no-cr (c ∷ d ∷ a) h = ap (λ (t : List ℕ). c ∷ t) (no-cr (d ∷ a) h)
+
+text-under : (a l : List ℕ) → LineStart a → 0 < length l → text (a ++ l) ≡ a ++ text l
+unfolding text
+text-under a [] h z = absurd (omega arith)
+text-under a (c ∷ l) h z = ap (without CR) (without-under LF a c l) ∙ by (without LF (c ∷ l))
+  where
+    by : (t : List ℕ) → without CR (a ++ t) ≡ a ++ without CR t
+    by [] = ap (without CR) (append-nil a) ∙ no-cr a h ∙ sym (append-nil a)
+    by (d ∷ t) = without-under CR a d t
+
 module _ (body : List ℕ) (start end : ℕ) (s : start ≡ lineStart body end) (h : end ≤ length body) where
-  pub text-end-within : start + length (text (part body start end)) ≤ end
-  text-end-within =
-      let (e, w, q) = text-ending (part body start end) in
-      omega (arith, start-le body start end s, sizes body start end s h .1, length-append (text (part body start end)) e, ap length q)
+  text-above : length (text (take end body)) ≡ start + length (text (part body start end))
+  unfolding behindLF text
+  text-above = by end s h
+    where
+      by : (k : ℕ) → start ≡ lineStart body k → k ≤ length body → length (text (take k body)) ≡ start + length (text (part body start k))
+      by zero e l = rw e
+      by (suc n) e l =
+          let before : start ≤ suc n = start-le body start (suc n) e in
+          let whole : take start body ++ part body start (suc n) ≡ take (suc n) body =
+          ap₂ (λ (u v : List ℕ). u ++ v) (sym (take-take start (suc n) body before)) (sym (part-is body start (suc n) before l))
+          ∙ take-append-drop start (take (suc n) body) in
+          let top : LineStart (take start body) = rw e (line-start-starts body (suc n) l) in
+          let some : 0 < length (part body start (suc n)) =
+          omega (arith, sizes body start (suc n) e l .1, start-before body start (suc n) e (omega arith)) in
+          rw (← whole, text-under (take start body) (part body start (suc n)) top some, length-append, sizes body start (suc n) e l .0)
 
   text-end-is : start + length (text (part body start end)) ≡ textEnd (lines (take end body))
   unfolding behindLF text
@@ -98,11 +129,10 @@ module _ (body : List ℕ) (start end : ℕ) (s : start ≡ lineStart body end) 
       by (suc n) e l =
           rw (last-part body start (suc n) e l (omega arith), text-end, join-lines, sizes body start (suc n) e l .0)
 
-  pub end-above-is : (k : ℕ) → end ≡ lineStart body k → k ≤ length body
-      → start + length (text (part body start end)) ≡ endAbove (lines (take k body))
+  pub end-above-is : (k : ℕ) → end ≡ lineStart body k → k ≤ length body → length (text (take end body)) ≡ endAbove (lines (take k body))
   unfolding behindLF
-  end-above-is zero e l = text-end-is ∙ rw e
-  end-above-is (suc n) e l = text-end-is ∙ rw (last-part body end (suc n) e l (omega arith), drop-last)
+  end-above-is zero e l = text-above ∙ text-end-is ∙ rw e
+  end-above-is (suc n) e l = text-above ∙ text-end-is ∙ rw (last-part body end (suc n) e l (omega arith), drop-last)
 
 -- ---- the scan at a line's start
 

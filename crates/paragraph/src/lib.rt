@@ -114,14 +114,14 @@ pub fn accepts_as_trailer_block(
         || (recognized_prefix && trailer_lines * 3 >= non_trailer_lines)
 }
 
-// Where the text of the last line but one before `end` ends: `end` is the end of the blank line above the paragraph.
+// Where the text of the last line but one before `end` ends: `end` is the end of the blank line above the paragraph. Where that line
+// starts does not matter: what stands above it ends in LF.
 fn end_above(body: &[u8], end: usize) -> usize
     requires { ⌜ end ≤ length (now body) ⌝ }
     ensures { λ r. ⌜ r ≡ endAbove (lines (take end (now (body .entry)))) ⌝ }
 {
     let blank = line_start(body, end);
-    let start = line_start(body, blank);
-    start + trim_line_ending(&body[start..blank]).len
+    trim_line_ending(&body[..blank]).len
 }
 
 // Where the trailer block of `body` starts; the body's length where its last paragraph is none.
