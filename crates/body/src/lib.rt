@@ -24,6 +24,7 @@ use rules::Places;
 use rules::Refusal;
 use rules::StartFound;
 use rules::TrailerFound;
+use rules::TrailerRef;
 use rules::TrailerStep;
 use rules::WalkFound;
 use rules::YesNo;
@@ -71,7 +72,22 @@ pub fn next_trailer_of(body: &[u8], cursor: Cursor, kind: Kind, out: &mut [u8]) 
     };
     let read = read_trailer(body, found, here.line, out);
     match read {
-        TrailerRead::Trailer(found) => TrailerStep::Trailer { found, next },
+        TrailerRead::Trailer(read) => {
+            let token = read.token;
+            let value = read.value;
+            let ending = read.ending;
+            let line = read.line;
+            let found = TrailerRef {
+                token: Part {
+                    start: token.start,
+                    end: token.end,
+                },
+                value,
+                ending,
+                line,
+            };
+            TrailerStep::Trailer { found, next }
+        }
         TrailerRead::Refused(refusal) => TrailerStep::Refused(refusal),
     }
 }

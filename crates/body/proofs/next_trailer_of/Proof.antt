@@ -117,8 +117,8 @@ same-length c = search needs
 
 returns-4 : tie.Need-returns-4
 returns-4 c =
-    let m = c .before .before in let r = m .before .before .before in
-    (ap (saidOf _) (sym (c .before .read .given .1)) ∙ answered r .0, answered r .1)
+    let k = c .before .before in let r = k .before .before .before .before in
+    (ap (saidOf _) (sym (k .read .given .1)) ∙ answered r .0, answered r .1)
 
 same-length-2 : tie.Need-same-length-2
 same-length-2 c = search needs
