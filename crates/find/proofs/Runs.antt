@@ -97,6 +97,39 @@ to-end s at i h l e =
     none [] e = refl
     none (x ∷ t) e = let n = or-none (isLF x) (any isLF t) e in rw (n .0) (ap suc (none t (n .1)))
 
+-- ---- an LF anywhere
+
+any-dropped : (i : ℕ) (s : List ℕ) → any isLF (drop i s) ≡ true → any isLF s ≡ true
+any-dropped zero s e = e
+any-dropped (suc i) [] e = e
+any-dropped (suc i) (x ∷ s) e = rw (any-dropped i s e) (either (isLF x))
+  where
+    either : (b : Bool) → (b || true) ≡ true
+    either true = refl
+    either false = refl
+
+any-taken : (k : ℕ) (s : List ℕ) → any isLF (take k s) ≡ true → any isLF s ≡ true
+any-taken zero s e = absurd (false≢true e)
+any-taken (suc k) [] e = e
+any-taken (suc k) (x ∷ s) e = by (isLF x) refl (any-taken k s)
+  where
+    by : (b : Bool) → isLF x ≡ b → (any isLF (take k s) ≡ true → any isLF s ≡ true) → (isLF x || any isLF s) ≡ true
+    by true q r = rw q
+    by false q r = rw q (r (rw q at e))
+
+pub any-within : (k i : ℕ) (s : List ℕ) → any isLF (take k (drop i s)) ≡ true → any isLF s ≡ true
+any-within k i s e = any-dropped i s (any-taken k (drop i s) e)
+
+-- none stands before the first
+pub any-behind : (s : List ℕ) (k : ℕ) → k ≤ untilLF s → any isLF (drop k s) ≡ any isLF s
+any-behind s zero h = refl
+any-behind [] (suc k) h = refl
+any-behind (x ∷ s) (suc k) h = by (isLF x) refl (any-behind s k)
+  where
+    by : (b : Bool) → isLF x ≡ b → (k ≤ untilLF s → any isLF (drop k s) ≡ any isLF s) → any isLF (drop k s) ≡ (isLF x || any isLF s)
+    by true q r = absurd (let z : suc k ≤ 0 = rw q at h in omega arith)
+    by false q r = rw q (r (let z : suc k ≤ suc (untilLF s) = rw q at h in omega arith))
+
 -- ---- counted
 
 as-byte : (b : Bool) → ((if b then 1 else 0) ≡ boolByte b) × (boolByte b ≤ 1)

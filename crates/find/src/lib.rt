@@ -85,6 +85,21 @@ pub fn find_lf(s: &[u8], at: usize) -> usize
     i + until_lf(&s[i..])
 }
 
+// Whether there is an LF. Behind the last whole run the last 16 bytes are read as a run here too.
+pub fn holds_lf(s: &[u8]) -> bool
+    ensures { λ r. ⌜ r ≡ any isLF (now (s .entry)) ⌝ }
+{
+    let len = s.len();
+    let i = past_runs(s, 0);
+    if len - i >= RUN {
+        return true;
+    }
+    if len >= RUN {
+        return has_lf(&s[len - RUN..]);
+    }
+    has_lf(s)
+}
+
 // Where the runs without an LF that end at `end` and before each other start.
 fn before_runs(s: &[u8], end: usize) -> usize
     requires { ⌜ end ≤ length (now s) ⌝ }

@@ -1,6 +1,7 @@
 // Lines: where they end and start, their text, and the tests on them.
 ghost use mathlib.Core.Path.{_≡_};
 ghost use Prim.Native.Nat.{_≤_};
+ghost use lib.Dec.{ltb};
 ghost use lib.ListN.{length};
 ghost use Rattle.rules.specs.Bytes.{blankByte};
 ghost use Rattle.rules.specs.Lines.{ending, endsWith, indented, lines, text};
@@ -8,6 +9,7 @@ ghost use Rattle.rules.specs.Lists.{all};
 ghost use Rattle.text.specs.Lines.{firstLength, lineStart};
 use find::behind_lf;
 use find::find_lf;
+use find::holds_lf;
 use rules::Ending;
 
 // The length of the first line, its ending with it; 0 of an empty input.
@@ -19,6 +21,17 @@ pub fn line_len(s: &[u8]) -> usize
         return end;
     }
     end + 1
+}
+
+// Whether there is more than one line: whether an LF stands before the last byte.
+pub fn has_more_lines(s: &[u8]) -> bool
+    ensures { λ r. ⌜ r ≡ ltb 1 (length (lines (now (s .entry)))) ⌝ }
+{
+    let len = s.len();
+    if len == 0 {
+        return false;
+    }
+    holds_lf(&s[..len - 1])
 }
 
 // Where the line that ends at `at` starts: the byte before `at` may be that line's own LF.

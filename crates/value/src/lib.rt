@@ -13,6 +13,7 @@ use rules::Part;
 use rules::Refusal;
 use rules::Value;
 use rules::ValueFound;
+use text::line::has_more_lines;
 use text::line::line_len;
 use white::trim;
 
@@ -20,7 +21,7 @@ use white::trim;
 fn is_folded(value: &[u8]) -> bool
     ensures { λ r. ⌜ r ≡ valueIsWritten (now (value .entry)) ⌝ }
 {
-    line_len(value) < value.len()
+    has_more_lines(value)
 }
 
 // A line without the white space at its ends.
