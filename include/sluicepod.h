@@ -292,12 +292,15 @@ uint32_t sluicepod_may_erase(const uint8_t *message, size_t message_len, uint32_
 uint32_t sluicepod_add_trailer(const uint8_t *message, size_t message_len, const uint8_t *token, size_t token_len,
                                const uint8_t *value, size_t value_len, uint8_t *out, size_t out_len, size_t *result,
                                size_t result_len);
+
 /* ---- All trailers at once
  *
  * A table is lent as numbers, SLUICEPOD_RECORD_LEN for each record; numbers at its end that are too few for a record are
  * not used. A record is: the token's start, the token's end, the value's place (three), an enum sluicepod_ending, that of
  * the trailer's last line, and the number of the line where the trailer starts. The calls refuse in the order
- * SHORT_RESULT, TOO_LONG, BAD_PLACE, SHORT_TABLE, NO_ROOM; a refusal writes neither to `table` nor to `out`. */
+ * SHORT_RESULT, NO_READING, TOO_LONG, BAD_PLACE, SHORT_TABLE, NO_ROOM; a refusal writes neither to `table` nor to `out`.
+ * They are fastest where the table has a room for each line that is left and `out` a byte for each byte: then nothing has
+ * to be counted first. */
 
 /* How many numbers of a table each record has. */
 #define SLUICEPOD_RECORD_LEN 7
@@ -309,6 +312,12 @@ uint32_t sluicepod_add_trailer(const uint8_t *message, size_t message_len, const
  * Values: how many records and how many bytes were written; with SHORT_TABLE and NO_ROOM, how many are needed. */
 uint32_t sluicepod_list_from(const uint8_t *input, size_t input_len, size_t at, size_t line, size_t *table,
                              size_t table_len, uint8_t *out, size_t out_len, size_t *result, size_t result_len);
+
+/* The same of a whole message, in the reading `reading`: from where the walk of its trailers begins. Places and numbers
+ * count in the message.
+ * Values: as those of sluicepod_list_from. */
+uint32_t sluicepod_list_trailers(const uint8_t *message, size_t message_len, uint32_t reading, size_t *table,
+                                 size_t table_len, uint8_t *out, size_t out_len, size_t *result, size_t result_len);
 
 #ifdef __cplusplus
 }

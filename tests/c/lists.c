@@ -35,6 +35,7 @@ static int is_in_table(const size_t *numbers, size_t count) {
 #define NO_RECORDS NULL, 0
 
 #define THREE_TRAILERS "A: b\nB: c\n d\nC:\n e\n f"
+#define NOTE "t\n\nx\n\nVehicle: 7\nRecords: 318,\n 22 late\n"
 
 static void lists(void) {
     /* 1 to 3 */
@@ -47,9 +48,24 @@ static void lists(void) {
     /* 4 and 5 */
     EXPECT_LISTED(sluicepod_list_from(BYTES("A: b\n"), 6, 1, table, 0, out, 0, RESULT), SLUICEPOD_BAD_PLACE, "", NO_RECORDS, 0);
     EXPECT_LISTED(sluicepod_list_from(BYTES("x"), 1, 1, table, 0, out, 0, RESULT), SLUICEPOD_OK, "", NO_RECORDS, 2, 0, 0);
-    /* 6: the walk of this message begins at 6, in line 5 */
-    EXPECT_LISTED(sluicepod_list_from(BYTES("t\n\nx\n\nVehicle: 7\nRecords: 318,\n 22 late\n"), 6, 5, table, 14, out, 12, RESULT),
-                  SLUICEPOD_OK, "318, 22 late", RECORDS(6, 13, 0, 15, 16, 0, 5, 17, 24, 1, 0, 12, 0, 6), 2, 2, 12);
+    /* 6 */
+    EXPECT_LISTED(sluicepod_list_trailers(BYTES(NOTE), SLUICEPOD_WHOLE, table, 14, out, 12, RESULT), SLUICEPOD_OK, "318, 22 late",
+                  RECORDS(6, 13, 0, 15, 16, 0, 5, 17, 24, 1, 0, 12, 0, 6), 2, 2, 12);
+    /* the same from where the walk of this message begins; and one room less, one byte less, and none at all */
+    EXPECT_LISTED(sluicepod_list_from(BYTES(NOTE), 6, 5, table, 14, out, 12, RESULT), SLUICEPOD_OK, "318, 22 late",
+                  RECORDS(6, 13, 0, 15, 16, 0, 5, 17, 24, 1, 0, 12, 0, 6), 2, 2, 12);
+    EXPECT_LISTED(sluicepod_list_trailers(BYTES(NOTE), SLUICEPOD_WHOLE, table, 13, out, 12, RESULT), SLUICEPOD_SHORT_TABLE, "",
+                  NO_RECORDS, 2, 2, 12);
+    EXPECT_LISTED(sluicepod_list_trailers(BYTES(NOTE), SLUICEPOD_WHOLE, table, 14, out, 11, RESULT), SLUICEPOD_NO_ROOM, "",
+                  NO_RECORDS, 2, 2, 12);
+    EXPECT_LISTED(sluicepod_list_trailers(BYTES(NOTE), SLUICEPOD_WHOLE, table, 0, out, 0, RESULT), SLUICEPOD_SHORT_TABLE, "",
+                  NO_RECORDS, 2, 2, 12);
+    /* a patch below a divider is read in the first reading alone */
+    EXPECT_LISTED(sluicepod_list_trailers(BYTES("t\n\nA: b\n---\n\nB: c"), SLUICEPOD_ABOVE_DIVIDER, table, TABLE_LEN, OUT, RESULT),
+                  SLUICEPOD_OK, "", RECORDS(3, 4, 0, 6, 7, 0, 3), 2, 1, 0);
+    EXPECT_LISTED(sluicepod_list_trailers(BYTES("t\n\nA: b\n---\n\nB: c"), SLUICEPOD_WHOLE, table, TABLE_LEN, OUT, RESULT),
+                  SLUICEPOD_OK, "", RECORDS(13, 14, 0, 16, 17, 3, 6), 2, 1, 0);
+    EXPECT_LISTED(sluicepod_list_trailers(BYTES(NOTE), 2, table, TABLE_LEN, OUT, RESULT), SLUICEPOD_NO_READING, "", NO_RECORDS, 0);
     /* a number that belongs to no place */
     EXPECT_LISTED(sluicepod_list_from(BYTES("A: b\n"), 0, 2, table, TABLE_LEN, OUT, RESULT), SLUICEPOD_BAD_PLACE, "", NO_RECORDS, 0);
     /* at the limit, and one byte above it */
@@ -62,9 +78,15 @@ static void lists(void) {
     EXPECT_LISTED(sluicepod_list_from(input, limit, 0, 1, table, TABLE_LEN, OUT, RESULT), SLUICEPOD_OK, "",
                   RECORDS(0, 1, 0, 3, 4, 0, 1), 2, 1, 0);
     EXPECT_LISTED(sluicepod_list_from(input, limit + 1, 0, 1, table, TABLE_LEN, OUT, RESULT), SLUICEPOD_TOO_LONG, "", NO_RECORDS, 0);
+    memcpy(input, "---\n\n", 5);
+    EXPECT_LISTED(sluicepod_list_trailers(input, limit, SLUICEPOD_ABOVE_DIVIDER, table, TABLE_LEN, OUT, RESULT), SLUICEPOD_OK, "",
+                  NO_RECORDS, 2, 0, 0);
+    EXPECT_LISTED(sluicepod_list_trailers(input, limit + 1, SLUICEPOD_ABOVE_DIVIDER, table, TABLE_LEN, OUT, RESULT),
+                  SLUICEPOD_TOO_LONG, "", NO_RECORDS, 0);
     free(input);
     for (size_t len = 0; len < SLUICEPOD_RESULT_LEN; len++) {
         reset_table();
         EXPECT_NOTHING_WRITTEN(sluicepod_list_from(BYTES(THREE_TRAILERS), 0, 1, table, TABLE_LEN, OUT, result, len), SLUICEPOD_SHORT_RESULT);
+        EXPECT_NOTHING_WRITTEN(sluicepod_list_trailers(BYTES(NOTE), SLUICEPOD_WHOLE, table, TABLE_LEN, OUT, result, len), SLUICEPOD_SHORT_RESULT);
     }
 }

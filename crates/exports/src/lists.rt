@@ -2,18 +2,25 @@
 ghost use mathlib.Core.Path.{_≡_};
 ghost use Prim.Native.Nat.{_/_, _≤_};
 ghost use lib.ListN.{length};
-ghost use Rattle.flat.specs.Flat.{flatTable, width};
-ghost use Rattle.listing.specs.Answers.{listAnswer, listBuffer, listingSays};
+ghost use Rattle.flat.specs.Flat.{flatTable, messageTable, width};
+ghost use Rattle.listing.specs.Answers.{listingSays};
+ghost use Rattle.planning.specs.Scopes.{messageBuffer, messageListing, scopeAnswer, scopeBuffer};
+ghost use Rattle.planning.specs.declared.Scope.{Scope};
 ghost use Rattle.numbers.specs.Numbers.{bufferOf, codeOf, resultLength, resultOf};
 ghost use Rattle.exports.specs.ByKind.{cursor};
+ghost use Rattle.exports.specs.ByReading.{askedIn, leftAsked, readingOf};
 use crate::SHORT_RESULT;
+use crate::readings::NO_READING;
+use crate::readings::ReadingAsked;
+use crate::readings::reading_of;
 use flat::list_from;
+use flat::list_trailers;
 use listing::Listing;
 use numbers::RESULT_LEN;
 use numbers::put;
 use rules::Cursor;
 
-// Of an answer of `list_from`.
+// Of an answer of a call that lists.
 fn put_listing(answer: Listing, result: &mut [usize]) -> u32
     requires { ⌜ resultLength ≤ length (now result) ⌝ }
     ensures { λ r. ⌜ r ≡ codeOf (listingSays answer) (now (result .entry)) ⌝ }
@@ -38,13 +45,36 @@ pub extern "C" fn sluicepod_list_from(
     out: &mut [u8],
     result: &mut [usize],
 ) -> u32
-    ensures { λ r. ⌜ r ≡ codeOf (listAnswer (now (input .entry)) (cursor at line) (length (now (table .entry)) / width) (length (now (out .entry)))) (now (result .entry)) ⌝ }
-    ensures { λ _. ⌜ now (result .exit) ≡ resultOf (listAnswer (now (input .entry)) (cursor at line) (length (now (table .entry)) / width) (length (now (out .entry)))) (now (result .entry)) ⌝ }
-    ensures { λ _. ⌜ now (table .exit) ≡ bufferOf (flatTable (now (input .entry)) (cursor at line) (length (now (out .entry))) (now (table .entry))) (now (table .entry)) (now (result .entry)) ⌝ }
-    ensures { λ _. ⌜ now (out .exit) ≡ bufferOf (listBuffer (now (input .entry)) (cursor at line) (length (now (table .entry)) / width) (now (out .entry))) (now (out .entry)) (now (result .entry)) ⌝ }
+    ensures { λ r. ⌜ r ≡ codeOf (scopeAnswer (now (input .entry)) (Scope.From (cursor at line)) (length (now (table .entry)) / width) (length (now (out .entry)))) (now (result .entry)) ⌝ }
+    ensures { λ _. ⌜ now (result .exit) ≡ resultOf (scopeAnswer (now (input .entry)) (Scope.From (cursor at line)) (length (now (table .entry)) / width) (length (now (out .entry)))) (now (result .entry)) ⌝ }
+    ensures { λ _. ⌜ now (table .exit) ≡ bufferOf (flatTable (now (input .entry)) (Scope.From (cursor at line)) (length (now (out .entry))) (now (table .entry))) (now (table .entry)) (now (result .entry)) ⌝ }
+    ensures { λ _. ⌜ now (out .exit) ≡ bufferOf (scopeBuffer (now (input .entry)) (Scope.From (cursor at line)) (length (now (table .entry)) / width) (now (out .entry))) (now (out .entry)) (now (result .entry)) ⌝ }
 {
     if result.len() < RESULT_LEN {
         return SHORT_RESULT;
     }
     put_listing(list_from(input, Cursor { at, line }, table, out), result)
+}
+
+// All trailers of a message in a reading.
+#[no_mangle]
+pub extern "C" fn sluicepod_list_trailers(
+    message: &[u8],
+    reading: u32,
+    table: &mut [usize],
+    out: &mut [u8],
+    result: &mut [usize],
+) -> u32
+    ensures { λ r. ⌜ r ≡ codeOf (askedIn (readingOf reading) (messageListing (length (now (table .entry)) / width) (length (now (out .entry)))) (now (message .entry))) (now (result .entry)) ⌝ }
+    ensures { λ _. ⌜ now (result .exit) ≡ resultOf (askedIn (readingOf reading) (messageListing (length (now (table .entry)) / width) (length (now (out .entry)))) (now (message .entry))) (now (result .entry)) ⌝ }
+    ensures { λ _. ⌜ now (table .exit) ≡ bufferOf (leftAsked (readingOf reading) (messageTable (length (now (out .entry)))) (now (message .entry)) (now (table .entry))) (now (table .entry)) (now (result .entry)) ⌝ }
+    ensures { λ _. ⌜ now (out .exit) ≡ bufferOf (leftAsked (readingOf reading) (messageBuffer (length (now (table .entry)) / width)) (now (message .entry)) (now (out .entry))) (now (out .entry)) (now (result .entry)) ⌝ }
+{
+    if result.len() < RESULT_LEN {
+        return SHORT_RESULT;
+    }
+    let ReadingAsked::In(reading) = reading_of(reading) else {
+        return put(NO_READING, &[], result);
+    };
+    put_listing(list_trailers(message, reading, table, out), result)
 }

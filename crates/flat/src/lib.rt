@@ -3,13 +3,18 @@ ghost use mathlib.Core.Path.{_≡_};
 ghost use Prim.Native.Nat.{_+_, _/_, _≤_};
 ghost use lib.ListN.{length};
 ghost use lib.Seq.{paste};
-ghost use Rattle.listing.specs.Answers.{listAnswer, listBuffer, listingSays};
+ghost use Rattle.divider.specs.Readings.{inReading, leftIn};
+ghost use Rattle.listing.specs.Answers.{listingSays};
+ghost use Rattle.planning.specs.Scopes.{messageBuffer, messageListing, scopeAnswer, scopeBuffer};
 ghost use Rattle.listing.specs.Turns.{onto};
-ghost use Rattle.flat.specs.Flat.{flatTable, numbersOf, width};
+ghost use Rattle.planning.specs.declared.Scope.{Scope};
+ghost use Rattle.flat.specs.Flat.{flatTable, messageTable, numbersOf, width};
+use divider::Reading;
 use listing::Listing;
 use numbers::ending_number;
+use planning::Scope;
+use planning::begin;
 use planning::list_step;
-use planning::plan_from;
 use rules::Cursor;
 use rules::TrailerRef;
 use rules::Value;
@@ -68,26 +73,44 @@ fn put_record(found: TrailerRef, table: &mut [usize], at: usize)
     copy_numbers(&numbers, table, at);
 }
 
-// All trailers from the cursor on: their records into `table`, their unfolded values one behind another into `out`.
-pub fn list_from(input: &[u8], cursor: Cursor, table: &mut [usize], out: &mut [u8]) -> Listing
-    ensures { λ r. ⌜ listingSays r ≡ listAnswer (now (input .entry)) cursor (length (now (table .entry)) / width) (length (now (out .entry))) ⌝ }
-    ensures { λ _. ⌜ now (table .exit) ≡ flatTable (now (input .entry)) cursor (length (now (out .entry))) (now (table .entry)) ⌝ }
-    ensures { λ _. ⌜ now (out .exit) ≡ listBuffer (now (input .entry)) cursor (length (now (table .entry)) / width) (now (out .entry)) ⌝ }
+// What is listed of an input: the records into `table`, the unfolded values one behind another into `out`.
+fn list(input: &[u8], scope: Scope, table: &mut [usize], out: &mut [u8]) -> Listing
+    ensures { λ r. ⌜ listingSays r ≡ scopeAnswer (now (input .entry)) scope (length (now (table .entry)) / width) (length (now (out .entry))) ⌝ }
+    ensures { λ _. ⌜ now (table .exit) ≡ flatTable (now (input .entry)) scope (length (now (out .entry))) (now (table .entry)) ⌝ }
+    ensures { λ _. ⌜ now (out .exit) ≡ scopeBuffer (now (input .entry)) scope (length (now (table .entry)) / width) (now (out .entry)) ⌝ }
 {
-    let plan = plan_from(input, cursor, table.len() / WIDTH, out.len());
-    let n = plan.n;
-    let mut spot = plan.start;
-    let mut i: usize = 0;
+    let mut spot = begin(input, scope, table.len() / WIDTH, out.len());
     let mut at: usize = 0;
-    while i < n {
+    while spot.more {
         let step = list_step(input, spot, out);
         let found = step.found;
         put_record(found, table, at);
         let next = step.next;
         spot = next;
         at += WIDTH;
-        i += 1;
     }
-    let outcome = plan.outcome;
-    outcome
+    spot.outcome
+}
+
+// All trailers from the cursor on.
+pub fn list_from(input: &[u8], cursor: Cursor, table: &mut [usize], out: &mut [u8]) -> Listing
+    ensures { λ r. ⌜ listingSays r ≡ scopeAnswer (now (input .entry)) (Scope.From cursor) (length (now (table .entry)) / width) (length (now (out .entry))) ⌝ }
+    ensures { λ _. ⌜ now (table .exit) ≡ flatTable (now (input .entry)) (Scope.From cursor) (length (now (out .entry))) (now (table .entry)) ⌝ }
+    ensures { λ _. ⌜ now (out .exit) ≡ scopeBuffer (now (input .entry)) (Scope.From cursor) (length (now (table .entry)) / width) (now (out .entry)) ⌝ }
+{
+    list(input, Scope::From(cursor), table, out)
+}
+
+// All trailers of a message in a reading. Places and numbers count in the message.
+pub fn list_trailers(
+    message: &[u8],
+    reading: Reading,
+    table: &mut [usize],
+    out: &mut [u8],
+) -> Listing
+    ensures { λ r. ⌜ listingSays r ≡ inReading reading (messageListing (length (now (table .entry)) / width) (length (now (out .entry)))) (now (message .entry)) ⌝ }
+    ensures { λ _. ⌜ now (table .exit) ≡ leftIn reading (messageTable (length (now (out .entry)))) (now (message .entry)) (now (table .entry)) ⌝ }
+    ensures { λ _. ⌜ now (out .exit) ≡ leftIn reading (messageBuffer (length (now (table .entry)) / width)) (now (message .entry)) (now (out .entry)) ⌝ }
+{
+    list(message, Scope::Message(reading), table, out)
 }

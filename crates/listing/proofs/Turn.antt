@@ -1,6 +1,6 @@
 -- The turns of a loop that lists, as facts on lists: where they start, what a turn asks of the step, what it leaves, and how they end. A
 -- record is laid into the table as the cells that `cells` makes of it: itself, or numbers. Assumes nothing.
-use mathlib.Core.Bool.{Bool, true, false}
+use mathlib.Core.Bool.{Bool, true, false, false≢true}
 use mathlib.Core.List.{List, [], _∷_, _++_}
 use mathlib.Core.Path.{_≡_, refl, sym, ap, _∙_}
 use Prim.Native.Nat.{ℕ, suc, _+_, _≤_, _<_}
@@ -8,8 +8,7 @@ use native.Mathlib.Omega.{arith}
 use borrow.Author.Tests.{le-ltb}
 use lib.Dec.{eqb, ltb}
 use lib.ListN.{length, take, drop, length-append}
-use lib.Seq.{take-length}
-use Rattle.rules.proofs.Answers.{trailer-step-decides}
+use lib.Seq.{length-take-le, take-take}
 use Rattle.rules.proofs.Number.{moved-fits}
 use Rattle.rules.proofs.Walk.{walk-moves, walk-step, walk-within}
 use Rattle.rules.specs.Answers.{Said, afterwards, limit, number, trailerStepSays}
@@ -24,9 +23,11 @@ use Rattle.rules.specs.declared.TrailerRef.{TrailerRef}
 use Rattle.rules.specs.declared.TrailerStep.{TrailerStep}
 use Rattle.rules.specs.declared.Value.{Value}
 use Rattle.body.specs.Body.{firstStep, firstWrites, stepAnswer, stepBuffer}
-use Rattle.listing.specs.Answers.{stored}
+use Rattle.listing.specs.Answers.{listingSays}
 use Rattle.listing.specs.Listing.{recordsOf, shiftedRecord, taken, valuesOf}
-use Rattle.listing.specs.Turns.{Ready, laid, onto, readUpTo, startAt, turnOf}
+use Rattle.listing.specs.Turns.{Begun, Ready, Starts, aheadOf, counts, laid, leftAt, lists, moreOf, onto, readUpTo, refuses, turnOf, withCounts}
+use Rattle.listing.specs.declared.Counts.{Counts}
+use Rattle.listing.specs.declared.Listing.{Listing}
 use Rattle.listing.specs.declared.Spot.{Spot}
 use Rattle.listing.specs.declared.Step.{Step}
 use Rattle.listing.proofs.Onto.{length-onto, onto-append, onto-front, onto-nil}
@@ -43,11 +44,6 @@ module _ (s : List ℕ) (c : Cursor) (room : ℕ) (short : ltb limit (length s) 
   -- it is not refused
   pub single-says : stepAnswer Kind.All s c room ≡ trailerStepSays (firstStep s c (walkFrom s (c .at)))
   single-says = rw (all-kept (walkFrom s (c .at)), short, placed, le-ltb room (length (firstWrites (walkFrom s (c .at)))) fits)
-
-  pub single-is : (r : TrailerStep) → trailerStepSays r ≡ stepAnswer Kind.All s c room → r ≡ firstStep s c (walkFrom s (c .at))
-  single-is r e =
-      let answer : TrailerStep = firstStep s c (walkFrom s (c .at)) in
-      trailer-step-decides (trailerStepSays answer) r answer (e ∙ single-says) refl
 
 first-number : (s : List ℕ) (c : Cursor) (ts : List Trailer) → number (trailerStepSays (firstStep s c ts)) ≡ 0
 first-number s c [] = refl
@@ -92,58 +88,78 @@ values-cons : (t : Trailer) (ts : List Trailer) → valuesOf (t ∷ ts) ≡ writ
 unfolding valuesOf
 values-cons t ts = refl
 
--- a record and where the listing goes on behind its trailer
-abbrev found : List ℕ → Spot → Trailer → TrailerRef
-found s p t = shiftedRecord (p .used) (recordOf (movedOn s (p .cursor) (placeOf t) .line) t)
-
-abbrev onward : List ℕ → Spot → Trailer → Spot
-onward s p t = record { end = p .end; cursor = movedOn s (p .cursor) (endOf t); used = p .used + length (writtenOf (rawValue t)) }
-
-laid-cons : {A : Type 0} (cells : TrailerRef → List A) (s : List ℕ) (p : Spot) (t : Trailer) (ts : List Trailer)
-    → laid cells (recordsOf s (p .cursor) (p .used) (t ∷ ts))
-    ≡ cells (found s p t) ++ laid cells (recordsOf s (onward s p t .cursor) (onward s p t .used) ts)
+-- the first of some trailers, as it is laid
+laid-cons : {A : Type 0} (cells : TrailerRef → List A) (s : List ℕ) (c : Cursor) (used : ℕ) (t : Trailer) (ts : List Trailer)
+    → laid cells (recordsOf s c used (t ∷ ts))
+    ≡ cells (shiftedRecord used (recordOf (movedOn s c (placeOf t) .line) t))
+    ++ laid cells (recordsOf s (movedOn s c (endOf t)) (used + length (writtenOf (rawValue t))) ts)
 unfolding recordsOf laid
-laid-cons cells s p t ts = refl
+laid-cons cells s c used t ts = refl
 
--- what a turn answers of the first trailer
-turn-is : (s : List ℕ) (p : Spot) (t : Trailer) (ts : List Trailer) (r : Step) → r ≡ turnOf p (firstStep s (p .cursor) (t ∷ ts))
-    → r ≡ record { found = found s p t; next = onward s p t }
-turn-is s p t ts r e = e ∙ rw (taken-is (rawValueAt t) (rawValue t))
+-- ---- the answer's counts
 
--- an input that is read to its end
-pub whole-read : (input : List ℕ) (p : Spot) → p .end ≡ length input → readUpTo p input ≡ input
-whole-read input p e = rw e (take-length input)
+same-counts : {a b n m : ℕ} → a ≡ b → n ≡ m → counts a n ≡ counts b m
+same-counts p q = rw (p, q)
+
+recounted : (o : Listing) (c d : Counts) → withCounts (withCounts o c) d ≡ withCounts o d
+recounted (Listing.Listed k) c d = refl
+recounted Listing.TooLong c d = refl
+recounted Listing.BadPlace c d = refl
+recounted (Listing.ShortTable k) c d = refl
+recounted (Listing.NoRoom k) c d = refl
+
+refusal-stays : (o : Listing) (c : Counts) → eqb (number (listingSays o)) 0 ≡ false → withCounts o c ≡ o
+refusal-stays (Listing.Listed k) c e = absurd (false≢true (sym e))
+refusal-stays Listing.TooLong c e = refl
+refusal-stays Listing.BadPlace c e = refl
+refusal-stays (Listing.ShortTable k) c e = refl
+refusal-stays (Listing.NoRoom k) c e = refl
 
 -- ---- the turns
 
-record Split (ts : List Trailer) : Type 0 where
-  here : Trailer
-  behind : List Trailer
-  is : ts ≡ here ∷ behind
+pub record Split (ts : List Trailer) : Type 0 where
+  pub here : Trailer
+  pub behind : List Trailer
+  pub is : ts ≡ here ∷ behind
 
-split : (ts : List Trailer) → 0 < length ts → Split ts
-split [] h = absurd (omega arith)
+pub split : (ts : List Trailer) → moreOf ts ≡ true → Split ts
+split [] h = absurd (false≢true h)
 split (t ∷ ts) h = record { here = t; behind = ts; is = refl }
 
--- What holds between turns: of n records i are stored, the next goes to `at`, the listing stands at p, the table is l and the buffer z.
--- The trailers of `todo` are left; where they are stored the table is T, and the buffer Z.
-pub record Turn {A : Type 0} (cells : TrailerRef → List A) (s : List ℕ) (end n lt lz : ℕ) (T : List A) (Z : List ℕ) (i at : ℕ) (p : Spot) (l : List A) (z : List ℕ) : Type 0 where
+-- where a trailer is ahead: these are left of the walk, and their values have room
+pub record Ahead (input : List ℕ) (lz : ℕ) (p : Spot) (todo : List Trailer) : Type 0 where
+  pub within : p .end ≤ length input
+  pub placed : cursorFits (p .cursor) (readUpTo p input) ≡ true
+  pub left : leftAt p input ≡ todo
+  pub is : p .ahead ≡ aheadOf todo
+  pub few : p .done .records ≤ p .cursor .at
+  pub room : p .done .bytes + length (valuesOf todo) ≤ lz
+
+-- What holds between turns: the next record goes to `at`, the listing stands at p, the table is l and the buffer z. The trailers of `todo`
+-- are left; where they are stored the table is T, the buffer is Z, and this is said.
+pub record Turn {A : Type 0} (cells : TrailerRef → List A) (input : List ℕ) (said : Said) (lt lz : ℕ) (T : List A) (Z : List ℕ) (at : ℕ) (p : Spot) (l : List A) (z : List ℕ) : Type 0 where
   pub todo : List Trailer
-  pub count : i + length todo ≡ n
-  pub there : i < n → (walkFrom s (p .cursor .at) ≡ todo) × (cursorFits (p .cursor) s ≡ true) × (ltb limit (length s) ≡ false)
-  pub ends : p .end ≡ end
+  pub more-is : p .more ≡ moreOf todo
+  pub ahead : p .more ≡ true → Ahead input lz p todo
   pub long : length l ≡ lt
   pub wide : length z ≡ lz
-  pub rooms : at + length (laid cells (recordsOf s (p .cursor) (p .used) todo)) ≤ lt
-  pub room : p .used + length (valuesOf todo) ≤ lz
-  pub table : onto at (laid cells (recordsOf s (p .cursor) (p .used) todo)) l ≡ T
-  pub buffer : onto (p .used) (valuesOf todo) z ≡ Z
+  pub rooms : at + length (laid cells (recordsOf (readUpTo p input) (p .cursor) (p .done .bytes) todo)) ≤ lt
+  pub table : onto at (laid cells (recordsOf (readUpTo p input) (p .cursor) (p .done .bytes) todo)) l ≡ T
+  pub buffer : onto (p .done .bytes) (valuesOf todo) z ≡ Z
+  pub so-far : withCounts (p .outcome) (p .done) ≡ p .outcome
+  pub at-last : listingSays (withCounts (p .outcome) (counts (p .done .records + length todo) (p .done .bytes + length (valuesOf todo)))) ≡ said
 
-module _ {A : Type 0} {cells : TrailerRef → List A} {s : List ℕ} {end n lt lz : ℕ} {T : List A} {Z : List ℕ} {i at : ℕ} {p : Spot} {l : List A} {z : List ℕ}
-    (t : Turn cells s end n lt lz T Z i at p l z) where
-  module _ (h : i < n) where
+module _ {A : Type 0} {cells : TrailerRef → List A} {input : List ℕ} {said : Said} {lt lz : ℕ} {T : List A} {Z : List ℕ} {at : ℕ} {p : Spot} {l : List A} {z : List ℕ}
+    (t : Turn cells input said lt lz T Z at p l z) where
+  abbrev s : List ℕ
+  s = readUpTo p input
+
+  module _ (h : p .more ≡ true) where
+    here : Ahead input lz p (t .todo)
+    here = t .ahead h
+
     first : Split (t .todo)
-    first = split (t .todo) (omega (arith, t .count))
+    first = split (t .todo) (sym (t .more-is) ∙ h)
 
     abbrev u : Trailer
     u = first .here
@@ -151,119 +167,213 @@ module _ {A : Type 0} {cells : TrailerRef → List A} {s : List ℕ} {end n lt l
     abbrev us : List Trailer
     us = first .behind
 
-    walked : walkFrom s (p .cursor .at) ≡ u ∷ us
-    walked = t .there h .0 ∙ first .is
+    -- what is written of its value, its record's cells, and the cells of the others
+    abbrev written : List ℕ
+    written = writtenOf (rawValue u)
 
-    values-are : valuesOf (t .todo) ≡ writtenOf (rawValue u) ++ valuesOf us
+    abbrev cell : List A
+    cell = cells (shiftedRecord (p .done .bytes) (recordOf (movedOn s (p .cursor) (placeOf u) .line) u))
+
+    abbrev later : List A
+    later = laid cells (recordsOf s (movedOn s (p .cursor) (endOf u)) (p .done .bytes + length written) us)
+
+    walked : leftAt p input ≡ u ∷ us
+    walked = here .left ∙ first .is
+
+    values-are : valuesOf (t .todo) ≡ written ++ valuesOf us
     values-are = ap valuesOf (first .is) ∙ values-cons u us
 
-    cells-are : laid cells (recordsOf s (p .cursor) (p .used) (t .todo))
-        ≡ cells (found s p u) ++ laid cells (recordsOf s (onward s p u .cursor) (onward s p u .used) us)
-    cells-are = ap (λ (ts : List Trailer). laid cells (recordsOf s (p .cursor) (p .used) ts)) (first .is) ∙ laid-cons cells s p u us
+    cells-are : laid cells (recordsOf s (p .cursor) (p .done .bytes) (t .todo)) ≡ cell ++ later
+    cells-are = ap (λ (ts : List Trailer). laid cells (recordsOf s (p .cursor) (p .done .bytes) ts)) (first .is) ∙ laid-cons cells s (p .cursor) (p .done .bytes) u us
 
-    fits : p .used + length (writtenOf (rawValue u)) + length (valuesOf us) ≤ lz
-    fits = omega (arith, t .room, ap length values-are ∙ length-append (writtenOf (rawValue u)) (valuesOf us))
+    fits : p .done .bytes + length written + length (valuesOf us) ≤ lz
+    fits = omega (arith, here .room, ap length values-are ∙ length-append written (valuesOf us))
 
-    fits-table : at + length (cells (found s p u)) + length (laid cells (recordsOf s (onward s p u .cursor) (onward s p u .used) us)) ≤ lt
-    fits-table =
-        omega (arith, t .rooms, ap length cells-are ∙ length-append (cells (found s p u)) (laid cells (recordsOf s (onward s p u .cursor) (onward s p u .used) us)))
+    fits-table : at + length cell + length later ≤ lt
+    fits-table = omega (arith, t .rooms, ap length cells-are ∙ length-append cell later)
 
     -- what the step asks
-    pub ready : (input : List ℕ) → end ≤ length input → s ≡ take end input → Ready input p (length z)
-    ready input e q =
-        let same : readUpTo p input ≡ s = ap (λ (k : ℕ). take k input) (t .ends) ∙ sym q in
-        record {
-          within = omega (arith, t .ends);
-          short = rw same (t .there h .2);
-          placed = rw same (t .there h .1);
-          fits = rw (same, walked) (omega (arith, t .wide, fits));
-        }
+    pub ready : Ready input p (length z)
+    ready = record {
+      within = here .within;
+      placed = here .placed;
+      more-is = ap moreOf walked;
+      ahead-is = here .is ∙ ap aheadOf (sym (here .left));
+      few = here .few;
+      fits = rw walked (omega (arith, t .wide, fits));
+    }
 
-    module _ (r : Step) (e : r ≡ turnOf p (firstStep s (p .cursor) (walkFrom s (p .cursor .at)))) where
-      answer : r ≡ record { found = found s p u; next = onward s p u }
-      answer = turn-is s p u us r (rw walked at e)
+    module _ (r : Step) (e : r ≡ turnOf p s (leftAt p input)) where
+      answer : r ≡ turnOf p s (u ∷ us)
+      answer = rw walked at e
+
+      -- the walk moves on, inside the input
+      pub nearer : (p .cursor .at < r .next .cursor .at) × (r .next .cursor .at ≤ length input)
+      nearer =
+          let size : length s ≡ p .end = length-take-le (p .end) input (here .within) in
+          rw answer (walk-moves s (p .cursor .at) u us walked, omega (arith, walk-within s (p .cursor .at) u us walked, size, here .within))
 
       -- the room that its record has
       pub fits-next : at + length (cells (r .found)) ≤ length l
       fits-next = rw answer (omega (arith, t .long, fits-table))
 
       pub next : (j : ℕ) (ls : List A) (zs : List ℕ) → j ≡ at + length (cells (r .found)) → ls ≡ onto at (cells (r .found)) l
-          → zs ≡ onto (p .used) (firstWrites (walkFrom s (p .cursor .at))) z → Turn cells s end n lt lz T Z (i + 1) j (r .next) ls zs
+          → zs ≡ onto (p .done .bytes) (firstWrites (leftAt p input)) z → Turn cells input said lt lz T Z j (r .next) ls zs
       next j ls zs at-is f g =
-          let w : List ℕ = writtenOf (rawValue u) in
-          let cell : List A = cells (found s p u) in
-          let later : List A = laid cells (recordsOf s (onward s p u .cursor) (onward s p u .used) us) in
-          let g′ : zs ≡ onto (p .used) w z = rw walked at g in
+          let g′ : zs ≡ onto (p .done .bytes) written z = rw walked at g in
           let f′ : ls ≡ onto at cell l = rw answer at f in
           let j′ : j ≡ at + length cell = rw answer at at-is in
-          let there′ : cursorFits (onward s p u .cursor) s ≡ true =
-          moved-fits s (p .cursor) (endOf u) (t .there h .1) (omega (arith, walk-moves s (p .cursor .at) u us walked)) (walk-within s (p .cursor .at) u us walked) in
+          let moves = walk-moves s (p .cursor .at) u us walked in
+          let fit : cursorFits (movedOn s (p .cursor) (endOf u)) s ≡ true =
+          moved-fits s (p .cursor) (endOf u) (here .placed) (omega (arith, moves)) (walk-within s (p .cursor .at) u us walked) in
+          let n : p .done .records + 1 + length us ≡ p .done .records + length (t .todo) = omega (arith, ap length (first .is)) in
+          let m : p .done .bytes + length written + length (valuesOf us) ≡ p .done .bytes + length (valuesOf (t .todo)) =
+          omega (arith, ap length values-are ∙ length-append written (valuesOf us)) in
           rw answer (record {
             todo = us;
-            count = omega (arith, t .count, ap length (first .is));
-            there = λ _. (walk-step s (p .cursor .at) u us walked, there′, t .there h .2);
-            ends = t .ends;
+            more-is = refl;
+            ahead = λ _. record {
+              within = here .within;
+              placed = fit;
+              left = walk-step s (p .cursor .at) u us walked;
+              is = refl;
+              few = omega (arith, here .few, moves);
+              room = fits;
+            };
             long = ap length f′ ∙ length-onto at cell l (omega (arith, t .long, fits-table)) ∙ t .long;
-            wide = ap length g′ ∙ length-onto (p .used) w z (omega (arith, t .wide, fits)) ∙ t .wide;
+            wide = ap length g′ ∙ length-onto (p .done .bytes) written z (omega (arith, t .wide, fits)) ∙ t .wide;
             rooms = rw j′ fits-table;
-            room = fits;
             table = rw (j′, f′) (sym (onto-append at cell later l (omega (arith, t .long, fits-table))) ∙ rw cells-are at (t .table));
-            buffer = rw g′ (sym (onto-append (p .used) w (valuesOf us) z (omega (arith, t .wide, fits))) ∙ rw values-are at (t .buffer));
+            buffer = rw g′ (sym (onto-append (p .done .bytes) written (valuesOf us) z (omega (arith, t .wide, fits))) ∙ rw values-are at (t .buffer));
+            so-far = recounted (p .outcome) _ _;
+            at-last = ap listingSays (recounted (p .outcome) _ _ ∙ ap (withCounts (p .outcome)) (same-counts n m)) ∙ t .at-last;
           })
 
   -- the end
-  none-left : n ≤ i → t .todo ≡ []
-  none-left h = by (t .todo) (omega (arith, t .count))
-    where
-      by : (ts : List Trailer) → length ts ≡ 0 → ts ≡ []
-      by [] e = refl
-      by (u ∷ ts) e = absurd (omega arith)
+  module _ (h : p .more ≡ false) where
+    none-left : t .todo ≡ []
+    none-left = by (t .todo) (sym (t .more-is) ∙ h)
+      where
+        by : (ts : List Trailer) → moreOf ts ≡ false → ts ≡ []
+        by [] e = refl
+        by (u ∷ ts) e = absurd (false≢true (sym e))
 
-  pub table-is : n ≤ i → l ≡ T
-  table-is h = sym (onto-nil at l) ∙ rw (none-left h, none-laid) at (t .table)
+    pub table-is : l ≡ T
+    table-is = sym (onto-nil at l) ∙ rw (none-left, none-laid) at (t .table)
 
-  pub buffer-is : n ≤ i → z ≡ Z
-  buffer-is h = sym (onto-nil (p .used) z) ∙ rw (none-left h, no-values) at (t .buffer)
+    pub buffer-is : z ≡ Z
+    buffer-is = sym (onto-nil (p .done .bytes) z) ∙ rw (none-left, no-values) at (t .buffer)
 
--- the start, by what is said: nothing is to do, or all of the walk, for which there is room
-module _ {A : Type 0} (cells : TrailerRef → List A) (s : List ℕ) (c : Cursor) (end : ℕ) (ys : List A) (os : List ℕ) where
-  abbrev all-cells : List A
-  all-cells = laid cells (recordsOf s c 0 (walkFrom s (c .at)))
+    pub said-is : listingSays (p .outcome) ≡ said
+    said-is =
+        let n : p .done .records + length (t .todo) ≡ p .done .records = omega (arith, ap length none-left) in
+        let m : p .done .bytes + length (valuesOf (t .todo)) ≡ p .done .bytes = omega (arith, ap length (ap valuesOf none-left ∙ no-values)) in
+        ap listingSays (sym (t .so-far) ∙ sym (ap (withCounts (p .outcome)) (same-counts n m))) ∙ t .at-last
 
-  abbrev all-values : List ℕ
-  all-values = valuesOf (walkFrom s (c .at))
+-- what is left to be listed from a spot on, its cells, its values, and what is said then
+abbrev pub todoAt : Spot → List ℕ → List Trailer
+todoAt p input = if p .more then leftAt p input else []
 
-  pub start : (said : Said)
-      → (eqb (number said) 0 ≡ true → (ltb limit (length s) ≡ false) × (cursorFits c s ≡ true) × (length all-cells ≤ length ys) × (length all-values ≤ length os))
-      → Turn cells s end (stored said (length (walkFrom s (c .at)))) (length ys) (length os) (afterwards said all-cells ys) (afterwards said all-values os) 0 0 (startAt end c) ys os
-  start said ok = by (eqb (number said) 0) ok
-    where
-      by : (b : Bool) → (b ≡ true → (ltb limit (length s) ≡ false) × (cursorFits c s ≡ true) × (length all-cells ≤ length ys) × (length all-values ≤ length os))
-          → Turn cells s end (if b then length (walkFrom s (c .at)) else 0) (length ys) (length os)
-          (if b then all-cells ++ drop (length all-cells) ys else ys) (if b then all-values ++ drop (length all-values) os else os) 0 0 (startAt end c) ys os
-      by true fit =
-          let (short, placed, rooms, room) = fit refl in
-          record {
-            todo = walkFrom s (c .at);
-            count = omega arith;
-            there = λ _. (refl, placed, short);
-            ends = refl;
-            long = refl;
-            wide = refl;
-            rooms = omega (arith, rooms);
-            room = omega (arith, room);
-            table = onto-front all-cells ys;
-            buffer = onto-front all-values os;
-          }
-      by false fit = record {
-        todo = [];
-        count = refl;
-        there = λ h. absurd (omega arith);
-        ends = refl;
-        long = refl;
-        wide = refl;
-        rooms = rw (none-laid cells s c 0) (omega arith);
-        room = rw no-values (omega arith);
-        table = rw (none-laid cells s c 0) (onto-nil 0 ys);
-        buffer = rw no-values (onto-nil 0 os);
-      }
+abbrev pub cellsAt : {A : Type 0} → (TrailerRef → List A) → Spot → List ℕ → List A
+cellsAt cells p input = laid cells (recordsOf (readUpTo p input) (p .cursor) (p .done .bytes) (todoAt p input))
+
+abbrev pub valuesAt : Spot → List ℕ → List ℕ
+valuesAt p input = valuesOf (todoAt p input)
+
+abbrev pub saidAt : Spot → List ℕ → Said
+saidAt p input = listingSays (withCounts (p .outcome) (counts (p .done .records + length (todoAt p input)) (p .done .bytes + length (valuesAt p input))))
+
+-- the start: nothing is to do, or all of the walk, for which there is room
+module _ (input : List ℕ) (p : Spot) where
+  refused-todo : p .more ≡ false → todoAt p input ≡ []
+  refused-todo m = rw m
+
+  refused-says : {said : Said} → listingSays (p .outcome) ≡ said → eqb (number said) 0 ≡ false → saidAt p input ≡ said
+  refused-says o e = ap listingSays (refusal-stays (p .outcome) _ (rw o e)) ∙ o
+
+  module _ {s : List ℕ} {said : Said} {records : List TrailerRef} {values : List ℕ} {rooms room : ℕ} (front : take (length s) input ≡ s) (b : Starts s said records values rooms room p) where
+    abbrev all : List Trailer
+    all = walkFrom s (p .cursor .at)
+
+    same : readUpTo p input ≡ s
+    same = ap (λ (x : Spot). take (x .end) input) (b .stands) ∙ front
+
+    none : p .done ≡ counts 0 0
+    none = ap (λ (x : Spot). x .done) (b .stands)
+
+    todo-is : todoAt p input ≡ all
+    todo-is = rw (ap (λ (x : Spot). x .more) (b .stands), same) (by all)
+      where
+        by : (ts : List Trailer) → (if moreOf ts then ts else []) ≡ ts
+        by [] = refl
+        by (t ∷ ts) = refl
+
+    cells-all : {A : Type 0} (cells : TrailerRef → List A) → cellsAt cells p input ≡ laid cells records
+    cells-all cells = rw (todo-is, same, none) (ap (laid cells) (b .records-are))
+
+    values-all : valuesAt p input ≡ values
+    values-all = ap valuesOf todo-is ∙ b .values-are
+
+    said-all : saidAt p input ≡ said
+    said-all =
+        let size : length (todoAt p input) ≡ length records = ap length todo-is ∙ sym (length-records s (p .cursor) 0 all) ∙ ap length (b .records-are) in
+        let n : p .done .records + length (todoAt p input) ≡ length records = omega (arith, size, ap (λ (c : Counts). c .records) none) in
+        let m : p .done .bytes + length (valuesAt p input) ≡ length values = omega (arith, ap length values-all, ap (λ (c : Counts). c .bytes) none) in
+        ap (λ (c : Counts). listingSays (withCounts (p .outcome) c)) (same-counts n m) ∙ b .at-last
+
+  -- what is said, and what the table and the buffer hold then
+  pub begun-says : {said : Said} {records : List TrailerRef} {values : List ℕ} {rooms room : ℕ} → Begun input said records values rooms room p → saidAt p input ≡ said
+  begun-says (refuses m o e) = refused-says o e
+  begun-says (lists s w front b) = said-all front b
+
+  pub begun-table : {said : Said} {records : List TrailerRef} {values : List ℕ} {rooms room : ℕ} {A : Type 0} (cells : TrailerRef → List A) (ys : List A) → Begun input said records values rooms room p
+      → afterwards (saidAt p input) (cellsAt cells p input) ys ≡ afterwards said (laid cells records) ys
+  begun-table cells ys (refuses m o e) = rw (refused-says o e, e)
+  begun-table cells ys (lists s w front b) = rw (said-all front b, cells-all front b cells)
+
+  pub begun-buffer : {said : Said} {records : List TrailerRef} {values : List ℕ} {rooms room : ℕ} (os : List ℕ) → Begun input said records values rooms room p
+      → afterwards (saidAt p input) (valuesAt p input) os ≡ afterwards said values os
+  begun-buffer os (refuses m o e) = rw (refused-says o e, e)
+  begun-buffer os (lists s w front b) = rw (said-all front b, values-all front b)
+
+  pub start : {said : Said} {records : List TrailerRef} {values : List ℕ} {rooms room : ℕ} {A : Type 0} (cells : TrailerRef → List A) (ys : List A) (os : List ℕ) → room ≡ length os → (length records ≤ rooms → length (laid cells records) ≤ length ys)
+      → Begun input said records values rooms room p
+      → Turn cells input (saidAt p input) (length ys) (length os) (afterwards (saidAt p input) (cellsAt cells p input) ys) (afterwards (saidAt p input) (valuesAt p input) os) 0 p ys os
+  start cells ys os wide enough (refuses m o e) = record {
+    todo = todoAt p input;
+    more-is = rw m refl;
+    ahead = λ h. absurd (false≢true (sym m ∙ h));
+    long = refl;
+    wide = refl;
+    rooms = rw (refused-todo m, none-laid cells (readUpTo p input) (p .cursor) (p .done .bytes)) (omega arith);
+    table = rw (refused-says o e, e, refused-todo m, none-laid cells (readUpTo p input) (p .cursor) (p .done .bytes)) (onto-nil 0 ys);
+    buffer = rw (refused-says o e, e, refused-todo m, no-values) (onto-nil (p .done .bytes) os);
+    so-far = refusal-stays (p .outcome) (p .done) (rw o e);
+    at-last = refl;
+  }
+  start cells ys os wide enough (lists s w front b) = record {
+    todo = todoAt p input;
+    more-is = ap (λ (x : Spot). x .more) (b .stands) ∙ ap moreOf (sym (todo-is front b));
+    ahead = λ _. record {
+      within = omega (arith, ap (λ (x : Spot). x .end) (b .stands));
+      placed = rw (same front b) (b .placed);
+      left = ap (λ (x : List ℕ). walkFrom x (p .cursor .at)) (same front b) ∙ sym (todo-is front b);
+      is = ap (λ (x : Spot). x .ahead) (b .stands) ∙ ap aheadOf (sym (todo-is front b));
+      few = omega (arith, ap (λ (c : Counts). c .records) (none front b));
+      room = omega (arith, wide, b .bytes-fit, ap length (values-all front b), ap (λ (c : Counts). c .bytes) (none front b));
+    };
+    long = refl;
+    wide = refl;
+    rooms = rw (cells-all front b cells) (omega (arith, enough (b .records-fit)));
+    table = rw (said-all front b, b .fine) (onto-front (cellsAt cells p input) ys);
+    buffer = rw (said-all front b, b .fine, none front b) (onto-front (valuesAt p input) os);
+    so-far = rw (none front b) (b .fresh);
+    at-last = refl;
+  }
+
+-- a listing that begins in a text at the input's front begins in the input
+pub begun-front : {text input : List ℕ} {said : Said} {records : List TrailerRef} {values : List ℕ} {rooms room : ℕ} {p : Spot}
+    → length text ≤ length input → take (length text) input ≡ text → Begun text said records values rooms room p → Begun input said records values rooms room p
+begun-front w front (refuses m o e) = refuses m o e
+begun-front {text} {input} w front (lists s v q b) =
+    lists s (omega arith) (sym (take-take (length s) (length text) input v) ∙ ap (take (length s)) front ∙ q) b

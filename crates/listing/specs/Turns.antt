@@ -1,23 +1,24 @@
--- One turn of a listing: the next record, by the single step, and where the listing goes on.
-use mathlib.Core.Bool.{true, false}
+-- How a listing is made: it begins somewhere, and each turn gives one record and where the listing stands behind it.
+use mathlib.Core.Bool.{Bool, true, false}
 use mathlib.Core.List.{List, [], _∷_, _++_}
 use mathlib.Core.Path.{_≡_}
 use Prim.Native.Nat.{ℕ, _+_, _≤_}
-use lib.Dec.{ltb}
+use lib.Dec.{eqb}
 use lib.ListN.{length, take, drop}
-use Rattle.rules.specs.Answers.{limit}
-use Rattle.rules.specs.Number.{cursorFits}
-use Rattle.rules.specs.Record.{part}
-use Rattle.rules.specs.Trailer.{walkFrom}
+use Rattle.rules.specs.Answers.{Said, number}
+use Rattle.rules.specs.Number.{cursorFits, movedOn}
+use Rattle.rules.specs.Record.{part, placesOf, recordOf, writtenOf}
+use Rattle.rules.specs.Trailer.{Trailer, endOf, placeOf, rawValue, walkFrom}
 use Rattle.rules.specs.declared.Cursor.{Cursor}
 use Rattle.rules.specs.declared.Ending.{Ending}
+use Rattle.rules.specs.declared.Places.{Places}
 use Rattle.rules.specs.declared.TrailerRef.{TrailerRef}
-use Rattle.rules.specs.declared.TrailerStep.{TrailerStep}
 use Rattle.rules.specs.declared.Value.{Value}
 use Rattle.body.specs.Body.{firstWrites}
-use Rattle.listing.specs.Answers.{listAnswer, listingSays, stored}
-use Rattle.listing.specs.Listing.{shiftedRecord, taken}
-use Rattle.listing.specs.declared.Plan.{Plan}
+use Rattle.listing.specs.Answers.{listingSays}
+use Rattle.listing.specs.Listing.{recordsOf, shiftedRecord, valuesOf}
+use Rattle.listing.specs.declared.Counts.{Counts}
+use Rattle.listing.specs.declared.Listing.{Listing}
 use Rattle.listing.specs.declared.Spot.{Spot}
 use Rattle.listing.specs.declared.Step.{Step}
 
@@ -25,37 +26,81 @@ use Rattle.listing.specs.declared.Step.{Step}
 abbrev pub onto : {A : Type 0} → ℕ → List A → List A → List A
 onto i w d = take i d ++ (w ++ drop (i + length w) d)
 
+abbrev pub counts : ℕ → ℕ → Counts
+counts records bytes = record { records = records; bytes = bytes }
+
+-- an answer with other counts; a refusal stays
+abbrev pub withCounts : Listing → Counts → Listing
+withCounts (Listing.Listed k) c = Listing.Listed c
+withCounts Listing.TooLong c = Listing.TooLong
+withCounts Listing.BadPlace c = Listing.BadPlace
+withCounts (Listing.ShortTable k) c = Listing.ShortTable k
+withCounts (Listing.NoRoom k) c = Listing.NoRoom k
+
+-- whether there is a trailer, and where the first of some stands
+abbrev pub moreOf : List Trailer → Bool
+moreOf [] = false
+moreOf (t ∷ ts) = true
+
+abbrev pub nowhere : Places
+nowhere = record { start = 0; «token_end» = 0; «value_start» = 0; end = 0 }
+
+abbrev pub aheadOf : List Trailer → Places
+aheadOf [] = nowhere
+aheadOf (t ∷ ts) = placesOf t
+
 -- the input so far as it is read
 abbrev pub readUpTo : Spot → List ℕ → List ℕ
 readUpTo p input = take (p .end) input
 
--- where a listing of an input starts, that is read up to `end`
-abbrev pub startAt : ℕ → Cursor → Spot
-startAt end c = record { end = end; cursor = c; used = 0 }
+-- the trailers that are left
+abbrev pub leftAt : Spot → List ℕ → List Trailer
+leftAt p input = walkFrom (readUpTo p input) (p .cursor .at)
 
--- what a plan says: the answer, how many records are stored, and where the listing starts
-pub record Planned (input : List ℕ) (c : Cursor) (rooms room : ℕ) (r : Plan) : Type 0 where
-  pub outcome-says : listingSays (r .outcome) ≡ listAnswer input c rooms room
-  pub n-is : r .n ≡ stored (listAnswer input c rooms room) (length (walkFrom input (c .at)))
-  pub start-is : r .start ≡ startAt (length input) c
+-- where a listing stands that has these trailers ahead
+abbrev pub standing : ℕ → Cursor → Counts → Listing → List Trailer → Spot
+standing end c done outcome ts = record { end = end; cursor = c; more = moreOf ts; ahead = aheadOf ts; done = done; outcome = outcome }
 
 -- no trailer: what stands where no record is
 abbrev pub blank : TrailerRef
 blank = record { token = part 0 0; value = Value.InInput (part 0 0); ending = Ending.None; line = 0 }
 
--- what a single step's answer makes of a turn; where there is no trailer, the listing stays
-abbrev pub turnOf : Spot → TrailerStep → Step
-turnOf p (TrailerStep.Trailer r next) =
-    record { found = shiftedRecord (p .used) r; next = record { end = p .end; cursor = next; used = p .used + taken (r .value) } }
-turnOf p (TrailerStep.End c) = record { found = blank; next = p }
-turnOf p (TrailerStep.Refused r) = record { found = blank; next = p }
+-- a turn: the record of the first trailer that is left, and where the listing stands behind it
+abbrev pub turnOf : Spot → List ℕ → List Trailer → Step
+turnOf p s [] = record { found = blank; next = p }
+turnOf p s (t ∷ ts) =
+    let done : Counts = counts (p .done .records + 1) (p .done .bytes + length (writtenOf (rawValue t))) in
+    record {
+      found = shiftedRecord (p .done .bytes) (recordOf (movedOn s (p .cursor) (placeOf t) .line) t);
+      next = standing (p .end) (movedOn s (p .cursor) (endOf t)) done (withCounts (p .outcome) done) ts;
+    }
 
--- the single step is not refused
+-- a trailer is ahead, and its value has room
 pub record Ready (input : List ℕ) (p : Spot) (room : ℕ) : Type 0 where
   pub within : p .end ≤ length input
-  pub short : ltb limit (length (readUpTo p input)) ≡ false
   pub placed : cursorFits (p .cursor) (readUpTo p input) ≡ true
-  pub fits : p .used + length (firstWrites (walkFrom (readUpTo p input) (p .cursor .at))) ≤ room
+  pub more-is : moreOf (leftAt p input) ≡ true
+  pub ahead-is : p .ahead ≡ aheadOf (leftAt p input)
+  pub few : p .done .records ≤ p .cursor .at
+  pub fits : p .done .bytes + length (firstWrites (leftAt p input)) ≤ room
+
+-- where the listing of a text begins that is not refused: these records and values are to be written, and this is said then
+pub record Starts (s : List ℕ) (said : Said) (records : List TrailerRef) (values : List ℕ) (rooms room : ℕ) (p : Spot) : Type 0 where
+  pub placed : cursorFits (p .cursor) s ≡ true
+  pub stands : p ≡ standing (length s) (p .cursor) (counts 0 0) (p .outcome) (walkFrom s (p .cursor .at))
+  pub records-are : recordsOf s (p .cursor) 0 (walkFrom s (p .cursor .at)) ≡ records
+  pub values-are : valuesOf (walkFrom s (p .cursor .at)) ≡ values
+  pub records-fit : length records ≤ rooms
+  pub bytes-fit : length values ≤ room
+  pub fresh : withCounts (p .outcome) (counts 0 0) ≡ p .outcome
+  pub at-last : listingSays (withCounts (p .outcome) (counts (length records) (length values))) ≡ said
+  pub fine : eqb (number said) 0 ≡ true
+
+-- where a listing begins: it is refused, or it lists a text at the input's front
+pub data Begun (input : List ℕ) (said : Said) (records : List TrailerRef) (values : List ℕ) (rooms room : ℕ) (p : Spot) : Type 0 where
+  refuses : p .more ≡ false → listingSays (p .outcome) ≡ said → eqb (number said) 0 ≡ false → Begun input said records values rooms room p
+  lists : (s : List ℕ) → length s ≤ length input → take (length s) input ≡ s → Starts s said records values rooms room p
+      → Begun input said records values rooms room p
 
 -- records as they are laid into a table of other cells, each as some of them
 unfoldable pub laid : {A : Type 0} → (TrailerRef → List A) → List TrailerRef → List A

@@ -1,19 +1,7 @@
 // All trailers at once (document 02, K1): the plain types that the definitions of specs/ speak of.
 use rules::Cursor;
+use rules::Places;
 use rules::TrailerRef;
-
-// Where a listing goes on: how far the input is read, the walk's cursor, and how many bytes of the buffer are used.
-pub struct Spot {
-    pub end: usize,
-    pub cursor: Cursor,
-    pub used: usize,
-}
-
-// Of `list_step`: the next record, and where the listing goes on.
-pub struct Step {
-    pub found: TrailerRef,
-    pub next: Spot,
-}
 
 // The records, and the bytes of the buffer: those that are written, or that are needed.
 pub struct Counts {
@@ -30,10 +18,19 @@ pub enum Listing {
     NoRoom(Counts),
 }
 
-// What is to be done, settled before anything is written: the answer, how many records are stored, none where it refuses, and
-// where the listing starts.
-pub struct Plan {
-    pub n: usize,
-    pub start: Spot,
+// Where a listing stands: how far the input is read, the walk's cursor, whether a trailer is ahead and where, what is written so far, and
+// the answer where nothing more is.
+pub struct Spot {
+    pub end: usize,
+    pub cursor: Cursor,
+    pub more: bool,
+    pub ahead: Places,
+    pub done: Counts,
     pub outcome: Listing,
+}
+
+// Of `list_step`: the next record, and where the listing stands behind it.
+pub struct Step {
+    pub found: TrailerRef,
+    pub next: Spot,
 }

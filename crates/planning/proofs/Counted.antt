@@ -4,14 +4,20 @@ use mathlib.Core.List.{List, [], _∷_, _++_}
 use mathlib.Core.Path.{_≡_, refl, sym, ap, _∙_}
 use Prim.Native.Nat.{ℕ, _+_, _-_, _≤_, _<_}
 use native.Mathlib.Omega.{arith}
+use lib.Dec.{eqb}
 use lib.ListN.{length, take, drop, length-append}
+use Rattle.rules.proofs.Parts.{rest}
 use Rattle.rules.proofs.Record.{places-fit, raw-is}
 use Rattle.rules.proofs.Unfolded.{unfolded-short}
 use Rattle.rules.proofs.Walk.{Stands, those-place, walk-moves, walk-stands, walk-step}
-use Rattle.rules.specs.Lists.{if_then_else_}
+use Rattle.rules.specs.Bytes.{LF}
+use Rattle.rules.specs.Lines.{Line, before, folds, lines}
+use Rattle.rules.specs.Lists.{if_then_else_, run}
+use Rattle.rules.specs.Number.{lineFeeds}
 use Rattle.rules.specs.Record.{part, placesOf, valueOf, writtenOf}
-use Rattle.rules.specs.Trailer.{Trailer, endOf, isOf, placeOf, rawValue, unfolded, valueIsWritten, walkFrom}
+use Rattle.rules.specs.Trailer.{Trailer, trailer, endOf, isOf, placeOf, rawValue, trailerLine, unfolded, valueIsWritten, walk, walkFrom}
 use Rattle.rules.specs.White.{trim, trimAt}
+use Rattle.rules.specs.declared.Cursor.{Cursor}
 use Rattle.rules.specs.declared.Kind.{Kind}
 use Rattle.rules.specs.declared.Places.{Places}
 use Rattle.rules.specs.declared.Value.{Value}
@@ -20,7 +26,16 @@ use Rattle.trailer.specs.Walk.{nextOf}
 use Rattle.trailer.specs.declared.walk.NextTrailer.{NextTrailer}
 use Rattle.listing.proofs.Turn.{all-kept}
 use Rattle.listing.specs.Listing.{taken, valuesOf}
+use Rattle.listing.specs.Turns.{standing}
+use Rattle.listing.specs.declared.Counts.{Counts}
+use Rattle.listing.specs.declared.Listing.{Listing}
 use Rattle.planning.specs.Planning.{from}
+
+-- where a listing stands that has found the next trailer
+pub found-standing : (end : ℕ) (c : Cursor) (done : Counts) (outcome : Listing) (ts : List Trailer) {at : Places} → nextOf ts ≡ NextTrailer.Trailer at
+    → record { end = end; cursor = c; more = true; ahead = at; done = done; outcome = outcome } ≡ standing end c done outcome ts
+found-standing end c done outcome [] q = let z : _≡_ {A = ℕ} 0 1 = cc in absurd (omega arith)
+found-standing end c done outcome (t ∷ ts) {at} q = let e : at ≡ placesOf t = cc in rw e
 
 -- no more is written than the raw value has
 written-short : (raw : List ℕ) → length (writtenOf raw) ≤ length raw
@@ -81,3 +96,40 @@ module _ (s : List ℕ) (at : ℕ) {p : Places} (q : nextOf (walkFrom s at) ≡ 
         bytes = omega (arith, values-are, ap (λ (x : List ℕ). length (writtenOf x)) raw, ap (λ (k : ℕ). length (valuesOf (walkFrom s k))) end);
         few = omega (arith, written-short (rawValue t), there .raw-ends, end, ap (λ (k : Places). k .«value_start») (first .places), ap (λ (x : List ℕ). length (writtenOf x)) raw);
       }
+
+-- ---- no more than lines and bytes
+
+walk-few : (at : ℕ) (ls : List Line) → length (walk at ls) ≤ length ls
+walk-few at [] = omega arith
+walk-few at (l ∷ ls) = by (trailerLine l) (walk-few (at + length l) ls)
+  where
+    by : (b : Bool) → length (walk (at + length l) ls) ≤ length ls
+        → length (if b then trailer at l (run folds ls) ∷ walk (at + length l) ls else walk (at + length l) ls) ≤ length (l ∷ ls)
+    by true h = omega (arith, h)
+    by false h = omega (arith, h)
+
+lines-few : (s : List ℕ) → length (lines s) ≤ lineFeeds s + 1
+lines-few [] = omega arith
+lines-few (c ∷ s) = by (eqb c LF) (lines s) (lines-few s)
+  where
+    by : (b : Bool) (ls : List Line) → length ls ≤ lineFeeds s + 1 → length (before b c ls) ≤ (if b then 1 else 0) + lineFeeds s + 1
+    by true ls h = omega (arith, h)
+    by false [] h = omega arith
+    by false (l ∷ ls) h = omega (arith, h)
+
+values-few : (s : List ℕ) (at : ℕ) (ts : List Trailer) → at ≤ length s → walkFrom s at ≡ ts → length (valuesOf ts) ≤ length s - at
+unfolding valuesOf
+values-few s at [] h e = omega arith
+values-few s at (t ∷ ts) h e =
+    let place = those-place s (isOf Kind.All) at (walkFrom s at) t ts refl (all-kept (walkFrom s at) ∙ e) in
+    let there = walk-stands s at t ts e in
+    let behind = values-few s (endOf t) ts (there .inside) (walk-step s at t ts e) in
+    omega (arith, behind, place, there .raw-ends, there .token-ends, there .inside, written-short (rawValue t), length-append (writtenOf (rawValue t)) (valuesOf ts))
+
+-- where there is a room for each line and one for each byte, there is room for all
+pub ample : (s : List ℕ) (at rooms room : ℕ) → at ≤ length s → length s - at ≤ room → lineFeeds (take (length s - at) (drop at s)) < rooms
+    → (length (walkFrom s at) ≤ rooms) × (length (valuesOf (walkFrom s at)) ≤ room)
+ample s at rooms room h fits lines-fit = (
+  omega (arith, walk-few at (lines (drop at s)), lines-few (drop at s), lines-fit, ap lineFeeds (rest s at)),
+  omega (arith, values-few s at (walkFrom s at) h refl, fits),
+)

@@ -1,50 +1,92 @@
--- The rows of a plan behind 1 and 2, by the counts. Assumes nothing.
+-- Where a listing begins, by its rows. Assumes nothing.
 use mathlib.Core.Bool.{true, false}
 use mathlib.Core.List.{List, [], _∷_}
 use mathlib.Core.Path.{_≡_, refl, sym, ap, _∙_}
 use Prim.Native.Nat.{ℕ, _≤_, _<_}
+use native.Mathlib.Omega.{arith}
 use borrow.Author.Tests.{le-ltb, lt-ltb}
-use lib.Dec.{ltb}
-use lib.ListN.{length}
-use Rattle.rules.specs.Answers.{Said, says, limit}
+use lib.Dec.{eqb, ltb}
+use lib.ListN.{length, take}
+use lib.Seq.{take-length}
+use Rattle.divider.proofs.Readings.{handed-on, read-short, read-taken, read-within}
+use Rattle.divider.specs.Readings.{read}
+use Rattle.divider.specs.declared.Reading.{Reading}
+use Rattle.message.specs.Message.{walkStart}
+use Rattle.rules.specs.Answers.{Said, limit, number, overLimit}
 use Rattle.rules.specs.Number.{cursorFits}
 use Rattle.rules.specs.Trailer.{walkFrom}
 use Rattle.rules.specs.declared.Cursor.{Cursor}
-use Rattle.listing.proofs.Turn.{length-records}
-use Rattle.listing.specs.Answers.{listAnswer, listingSays, stored}
+use Rattle.rules.specs.declared.TrailerRef.{TrailerRef}
+use Rattle.listing.proofs.Turn.{begun-front, length-records}
+use Rattle.listing.specs.Answers.{listingSays}
+use Rattle.planning.specs.Scopes.{scopeAnswer, scopeRecords, scopeValues}
 use Rattle.listing.specs.Listing.{recordsFrom, valuesFrom}
-use Rattle.listing.specs.Turns.{Planned, startAt}
+use Rattle.listing.specs.Turns.{Begun, counts, lists, refuses, standing, withCounts}
 use Rattle.listing.specs.declared.Counts.{Counts}
 use Rattle.listing.specs.declared.Listing.{Listing}
+use Rattle.planning.specs.declared.Scope.{Scope}
 use Rattle.listing.specs.declared.Spot.{Spot}
-use Rattle.planning.specs.Planning.{countsAt, planOf}
+use Rattle.planning.specs.Planning.{countsAt, refusing, settledSays}
 
-module _ (input : List ℕ) (c : Cursor) (rooms room : ℕ) where
-  abbrev begin : Spot
-  begin = startAt (length input) c
+pub refused : {input : List ℕ} {said : Said} {records : List TrailerRef} {values : List ℕ} {rooms room : ℕ} (outcome : Listing)
+    → listingSays outcome ≡ said → eqb (number (listingSays outcome)) 0 ≡ false → Begun input said records values rooms room (refusing outcome)
+refused outcome e n = refuses refl e (rw (← e) n)
 
-  pub planned : (n : ℕ) (outcome : Listing) → listAnswer input c rooms room ≡ listingSays outcome
-      → n ≡ stored (listingSays outcome) (length (walkFrom input (c .at))) → Planned input c rooms room (planOf n begin outcome)
-  planned n outcome e k = record {
-    outcome-says = sym e;
-    n-is = k ∙ ap (λ (said : Said). stored said (length (walkFrom input (c .at)))) (sym e);
-    start-is = refl;
-  }
+same-number : (o : Listing) (c : Counts) → number (listingSays (withCounts o c)) ≡ number (listingSays o)
+same-number (Listing.Listed k) c = refl
+same-number Listing.TooLong c = refl
+same-number Listing.BadPlace c = refl
+same-number (Listing.ShortTable k) c = refl
+same-number (Listing.NoRoom k) c = refl
 
-  module _ (short : ltb limit (length input) ≡ false) (placed : cursorFits c input ≡ true) {k : Counts} (e : k ≡ countsAt input (c .at)) where
-    records-are : length (recordsFrom input c) ≡ k .records
-    records-are = length-records input c 0 (walkFrom input (c .at)) ∙ ap (λ (x : Counts). x .records) (sym e)
+module _ (text : List ℕ) (c : Cursor) (outcome : Listing) (rooms room : ℕ) where
+  abbrev Settles : Spot → Type 0
+  Settles p = Begun text (settledSays text c outcome rooms room) (recordsFrom text c) (valuesFrom text c) rooms room p
 
-    bytes-are : length (valuesFrom input c) ≡ k .bytes
+  count-is : length (recordsFrom text c) ≡ length (walkFrom text (c .at))
+  count-is = length-records text c 0 (walkFrom text (c .at))
+
+  module _ {k : Counts} (e : k ≡ countsAt text (c .at)) where
+    records-are : length (recordsFrom text c) ≡ k .records
+    records-are = count-is ∙ ap (λ (x : Counts). x .records) (sym e)
+
+    bytes-are : length (valuesFrom text c) ≡ k .bytes
     bytes-are = ap (λ (x : Counts). x .bytes) (sym e)
 
-    pub few-rooms : rooms < k .records → Planned input c rooms room (planOf 0 begin (Listing.ShortTable k))
-    few-rooms h = planned 0 (Listing.ShortTable k) (rw (short, placed, records-are, bytes-are, lt-ltb rooms (k .records) h)) refl
+    pub few-rooms : rooms < k .records → Settles (refusing (Listing.ShortTable k))
+    few-rooms h = refused (Listing.ShortTable k) (rw (records-are, bytes-are, lt-ltb rooms (k .records) h)) refl
 
-    pub no-room : k .records ≤ rooms → room < k .bytes → Planned input c rooms room (planOf 0 begin (Listing.NoRoom k))
-    no-room h r = planned 0 (Listing.NoRoom k) (rw (short, placed, records-are, bytes-are, le-ltb rooms (k .records) h, lt-ltb room (k .bytes) r)) refl
+    pub no-room : k .records ≤ rooms → room < k .bytes → Settles (refusing (Listing.NoRoom k))
+    no-room h r = refused (Listing.NoRoom k) (rw (records-are, bytes-are, le-ltb rooms (k .records) h, lt-ltb room (k .bytes) r)) refl
 
-    pub all-fit : k .records ≤ rooms → k .bytes ≤ room → Planned input c rooms room (planOf (k .records) begin (Listing.Listed k))
-    all-fit h r =
-        planned (k .records) (Listing.Listed k) (rw (short, placed, records-are, bytes-are, le-ltb rooms (k .records) h, le-ltb room (k .bytes) r))
-        (ap (λ (x : Counts). x .records) e)
+  pub all-fit : cursorFits c text ≡ true → withCounts outcome (counts 0 0) ≡ outcome → eqb (number (listingSays outcome)) 0 ≡ true
+      → length (walkFrom text (c .at)) ≤ rooms → length (valuesFrom text c) ≤ room
+      → Settles (standing (length text) c (counts 0 0) outcome (walkFrom text (c .at)))
+  all-fit placed fresh fine h r =
+      let few = le-ltb rooms (length (recordsFrom text c)) (omega (arith, count-is, h)) in
+      let fits = le-ltb room (length (valuesFrom text c)) r in
+      lists text (omega arith) (take-length text) (record {
+        placed = placed;
+        stands = refl;
+        records-are = refl;
+        values-are = refl;
+        records-fit = omega (arith, count-is, h);
+        bytes-fit = r;
+        fresh = fresh;
+        at-last = rw (few, fits);
+        fine = rw (few, fits) (ap (λ (n : ℕ). eqb n 0) (same-number outcome (counts (length (recordsFrom text c)) (length (valuesFrom text c)))) ∙ fine);
+      })
+
+-- the listing of a message, from that of the text that is read of it
+pub message-begun : (message : List ℕ) (reading : Reading) (rooms room : ℕ) {end : ℕ} {c : Cursor} {p : Spot} → end ≡ length (read reading message)
+    → length message ≤ limit → (c ≡ walkStart (take end message)) × (cursorFits c (take end message) ≡ true)
+    → Begun (take end message) (settledSays (take end message) c (Listing.Listed (counts 0 0)) rooms room) (recordsFrom (take end message) c) (valuesFrom (take end message) c) rooms room p
+    → Begun message (scopeAnswer message (Scope.Message reading) rooms room) (scopeRecords message (Scope.Message reading)) (scopeValues message (Scope.Message reading)) rooms room p
+message-begun message reading rooms room {end} {c} {p} e short (at, fits) b =
+    let m : List ℕ = read reading message in
+    let same : take end message ≡ m = handed-on reading message e .0 in
+    let long = le-ltb limit (length message) short in
+    let at′ : c ≡ walkStart m = rw same at at in
+    let fits′ : cursorFits (walkStart m) m ≡ true = rw (same, at′) at fits in
+    let b′ : Begun m (settledSays m (walkStart m) (Listing.Listed (counts 0 0)) rooms room) (recordsFrom m (walkStart m)) (valuesFrom m (walkStart m)) rooms room p = rw (same, at′) at b in
+    rw (long, read-short reading message long, fits′) (begun-front (read-within reading message) (read-taken reading message) b′)

@@ -2,3 +2,4 @@
 pub mod Counted
 pub mod Judged
 pub mod Stepping
+pub mod Refused

@@ -1,14 +1,19 @@
--- What a listing needs, and where a value begins in the buffer.
-use mathlib.Core.List.{List}
-use Prim.Native.Nat.{ℕ}
+-- What the parts of a listing answer.
+use mathlib.Core.Bool.{Bool, true}
+use mathlib.Core.List.{List, []}
+use mathlib.Core.Path.{_≡_}
+use Prim.Native.Nat.{ℕ, _+_, _≤_}
 use lib.ListN.{length}
+use Rattle.rules.specs.Answers.{Said, judged}
 use Rattle.rules.specs.Trailer.{walkFrom}
+use Rattle.rules.specs.declared.Cursor.{Cursor}
+use Rattle.rules.specs.declared.TrailerRef.{TrailerRef}
 use Rattle.rules.specs.declared.Value.{Value}
-use Rattle.listing.specs.Listing.{valuesOf}
-use Rattle.listing.specs.Turns.{blank}
+use Rattle.listing.specs.Answers.{listingSays, roomRows}
+use Rattle.listing.specs.Listing.{recordsFrom, shiftedRecord, taken, valuesFrom, valuesOf}
+use Rattle.listing.specs.Turns.{blank, counts, standing, withCounts}
 use Rattle.listing.specs.declared.Counts.{Counts}
 use Rattle.listing.specs.declared.Listing.{Listing}
-use Rattle.listing.specs.declared.Plan.{Plan}
 use Rattle.listing.specs.declared.Spot.{Spot}
 use Rattle.listing.specs.declared.Step.{Step}
 
@@ -24,5 +29,24 @@ from (Value.InBuffer p) = p .start
 abbrev pub stays : Spot → Step
 stays p = record { found = blank; next = p }
 
-abbrev pub planOf : ℕ → Spot → Listing → Plan
-planOf n start outcome = record { n = n; start = start; outcome = outcome }
+-- the turn of a record that was read, the walk at `next`
+abbrev pub found : Spot → List ℕ → TrailerRef → Cursor → Step
+found p text r next =
+    let done : Counts = counts (p .done .records + 1) (p .done .bytes + taken (r .value)) in
+    record {
+      found = shiftedRecord (p .done .bytes) r;
+      next = standing (length text) next done (withCounts (p .outcome) done) (walkFrom text (next .at));
+    }
+
+-- where it is so, there is room for all of the walk
+abbrev pub Ample : List ℕ → ℕ → ℕ → ℕ → Bool → Type 0
+Ample text at rooms room ample = ample ≡ true → (length (walkFrom text at) ≤ rooms) × (length (valuesOf (walkFrom text at)) ≤ room)
+
+abbrev pub refusing : Listing → Spot
+refusing outcome = standing 0 (record { at = 0; line = 0 }) (counts 0 0) outcome []
+
+-- what is said of a text from a cursor that fits, `outcome` where all is listed
+abbrev pub settledSays : List ℕ → Cursor → Listing → ℕ → ℕ → Said
+settledSays text c outcome rooms room =
+    judged (roomRows (length (recordsFrom text c)) (length (valuesFrom text c)) rooms room)
+    (listingSays (withCounts outcome (counts (length (recordsFrom text c)) (length (valuesFrom text c)))))

@@ -9,11 +9,32 @@ shift-requires c κs = search needs
 bytes-taken-requires : tie.Need-bytes-taken-requires
 bytes-taken-requires c κs = search needs
 
-add-next-used : tie.Need-add-next-used
-add-next-used c = search needs
+add-records : tie.Need-add-records
+add-records c = search needs
+
+add-bytes : tie.Need-add-bytes
+add-bytes c = search needs
+
+with-counts-requires : tie.Need-with-counts-requires
+with-counts-requires c κs = search needs
+
+stand-requires : tie.Need-stand-requires
+stand-requires c κs = search needs
 
 returns : tie.Need-returns
-returns c = rw (c .before .shift .ensures, c .bytes-taken .ensures)
+returns c =
+    let w = c .before in
+    let t = w .before .before in
+    rw (c .stand .ensures, w .with-counts .ensures, t .bytes-taken .ensures, t .before .shift .ensures)
 
 pub turn-spec : {M : Type 1} → statement M
-turn-spec = tie.close (tie.spec shift-requires bytes-taken-requires add-next-used returns)
+turn-spec =
+    tie.close
+    (tie.spec
+    shift-requires
+    bytes-taken-requires
+    add-records
+    add-bytes
+    with-counts-requires
+    stand-requires
+    returns)

@@ -1,2 +1,0 @@
--- What a walk that is refused tells of its message.
-pub mod Refused

@@ -1,2 +1,0 @@
--- The listing of a whole message, as rules about the message.
-pub mod Lists

@@ -1,0 +1,16 @@
+-- `planning::refuse` meets its contract. Assumes nothing.
+use borrow.Author.Needs.{needs}
+use Rattle.planning.proofs.refuse.Statement.{statement}
+use Rattle.planning.proofs.refuse.Tie as tie
+
+none-requires : tie.Need-none-requires
+none-requires c κs = search needs
+
+stand-last-requires : tie.Need-stand-last-requires
+stand-last-requires c κs = search needs
+
+returns : tie.Need-returns
+returns c = rw (c .stand-last .ensures, c .before .none .ensures)
+
+pub refuse-spec : {M : Type 1} → statement M
+refuse-spec = tie.close (tie.spec none-requires stand-last-requires returns)
