@@ -49,7 +49,7 @@ fn joined_len(len: usize, more: usize) -> usize
 }
 
 // The length of the unfolded value.
-fn unfolded_len(value: &[u8]) -> usize
+pub fn unfolded_len(value: &[u8]) -> usize
     ensures { λ r. ⌜ r ≡ length (unfolded (now (value .entry))) ⌝ }
 {
     let mut len = 0;
@@ -94,7 +94,7 @@ fn push_line(line: &[u8], out: &mut [u8], len: usize) -> usize
 }
 
 // Writes the unfolded value to the front of `out`, keeps every byte behind it, and answers its length.
-fn unfold_into(value: &[u8], out: &mut [u8]) -> usize
+pub fn unfold_into(value: &[u8], out: &mut [u8]) -> usize
     requires { ⌜ length (unfolded (now value)) ≤ length (now out) ⌝ }
     ensures { λ r. ⌜ r ≡ length (unfolded (now (value .entry))) ⌝ }
     ensures { λ _. ⌜ now (out .exit) ≡ unfolded (now (value .entry)) ++ drop (length (unfolded (now (value .entry)))) (now (out .entry)) ⌝ }
