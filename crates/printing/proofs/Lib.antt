@@ -1,2 +1,2 @@
--- What a step of the walk tells, for the proof of `walk`.
-pub mod Step
+-- What carries the proof of `listed`.
+pub mod Enough

@@ -5,7 +5,7 @@ use Prim.Native.Nat.{ℕ, _-_, _≤_}
 use native.Mathlib.Omega.{arith}
 use borrow.Author.Needs.{needs}
 use lib.ListN.{length}
-use Rattle.printing.proofs.Step.{Found, found}
+use Rattle.signers.proofs.Step.{Found, found}
 use Rattle.signers.proofs.print_trailers.Statement.{statement}
 use Rattle.signers.proofs.print_trailers.Tie as tie
 
