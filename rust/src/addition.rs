@@ -1,4 +1,7 @@
-use crate::{archive, value::with_room, Refusal};
+#[cfg(feature = "alloc")]
+use {crate::value::with_room, alloc::vec::Vec};
+
+use crate::{archive, Refusal};
 
 /// Writes a message with one trailer more.
 ///
@@ -26,6 +29,7 @@ use crate::{archive, value::with_room, Refusal};
 /// the token is not letters, digits or hyphens, at least one; [`Refusal::BadValue`], where the value has an LF or is not its
 /// own trim; [`Refusal::NothingToStandOn`], where the message has no non-blank line; [`Refusal::TooLong`], where the result
 /// would be longer than the limit.
+#[cfg(feature = "alloc")]
 pub fn add_trailer(message: &[u8], token: &[u8], value: &[u8]) -> Result<Vec<u8>, Refusal> {
     let (_, out) = with_room(|out| archive::add_trailer(message, token, value, out))?;
     Ok(out)

@@ -6,12 +6,13 @@
 //! writes to, `out` and `result`, is held by `&mut`, so it overlaps nothing else that is lent. And it is proved of it
 //! that on all numbers and bytes it stays inside what it is lent, and ends.
 
-use std::ops::Range;
+use core::ops::Range;
 
-use crate::{Ending, Field, Reading, Refusal, Report};
+use crate::{Cursor, Ending, Field, Place, Reading, Record, Refusal, Report, Step};
 
-/// Which tokens are meant, by the header's numbers.
+/// Which tokens are meant, by the header's numbers. Those of the filters are asked for where there is a heap.
 #[derive(Clone, Copy)]
+#[cfg_attr(not(feature = "alloc"), allow(dead_code))]
 #[repr(u32)]
 pub enum Kind {
     All = 0,
@@ -23,33 +24,6 @@ pub enum Kind {
     TestedBy = 6,
     Attribution = 7,
     Author = 8,
-}
-
-/// Where a value stands: a part of the input, or written to the front of `out`.
-pub enum Place {
-    Input(Range<usize>),
-    Out,
-}
-
-/// A place of an input, and the number of its line there.
-#[derive(Clone, Copy, Debug)]
-pub struct Cursor {
-    pub at: usize,
-    pub line: usize,
-}
-
-/// A trailer: where its token and its value stand, how its last line ends, and the number of the line where it starts.
-pub struct Found {
-    pub token: Range<usize>,
-    pub value: Place,
-    pub ending: Ending,
-    pub line: usize,
-}
-
-/// A step of the trailer walk: what it found, if it is not at the end, and where to go on from.
-pub struct TrailerStep {
-    pub found: Option<Found>,
-    pub next: Cursor,
 }
 
 /// A step of the block walk: the ends of the message and of the block, if it is not at the end, and the position and the
@@ -113,7 +87,7 @@ pub fn cursor_at(input: &[u8], at: usize) -> Result<Cursor, Refusal> {
 }
 
 /// The next trailer of the kind from the cursor on.
-pub fn next_trailer(body: &[u8], cursor: Cursor, kind: Kind, out: &mut [u8]) -> Result<TrailerStep, Refusal> {
+pub fn next_trailer(body: &[u8], cursor: Cursor, kind: Kind, out: &mut [u8]) -> Result<Step, Refusal> {
     let answer = ask(|result, len| unsafe {
         sluicepod_next_trailer(
             body.as_ptr(),
@@ -128,24 +102,19 @@ pub fn next_trailer(body: &[u8], cursor: Cursor, kind: Kind, out: &mut [u8]) -> 
         )
     })?;
     Ok(match answer {
-        [9, token_start, token_end, held, start, end, at, number, line, next_line, ..] => TrailerStep {
-            found: Some(Found {
-                token: token_start..token_end,
-                value: place(held, start, end),
-                ending: ending(number),
-                line,
-            }),
+        [9, token_start, token_end, held, start, end, at, number, line, next_line, ..] => Step {
+            record: Some(record([token_start, token_end, held, start, end, number, line])),
             next: Cursor { at, line: next_line },
         },
-        [_, at, line, ..] => TrailerStep {
-            found: None,
+        [_, at, line, ..] => Step {
+            record: None,
             next: Cursor { at, line },
         },
     })
 }
 
 /// The last trailer of a body that has the name.
-pub fn find_trailer(body: &[u8], name: &[u8], out: &mut [u8]) -> Result<Option<Found>, Refusal> {
+pub fn find_trailer(body: &[u8], name: &[u8], out: &mut [u8]) -> Result<Option<Record>, Refusal> {
     let answer = ask(|result, len| unsafe {
         sluicepod_find_trailer(
             body.as_ptr(),
@@ -159,12 +128,9 @@ pub fn find_trailer(body: &[u8], name: &[u8], out: &mut [u8]) -> Result<Option<F
         )
     })?;
     Ok(match answer {
-        [7, token_start, token_end, held, start, end, number, line, ..] => Some(Found {
-            token: token_start..token_end,
-            value: place(held, start, end),
-            ending: ending(number),
-            line,
-        }),
+        [7, token_start, token_end, held, start, end, number, line, ..] => {
+            Some(record([token_start, token_end, held, start, end, number, line]))
+        }
         _ => None,
     })
 }
@@ -185,6 +151,7 @@ pub fn next_block(body: &[u8], at: usize, start: usize) -> Result<BlockStep, Ref
 }
 
 /// Whether a token is of the kind.
+#[cfg(feature = "alloc")]
 pub fn is_of_kind(token: &[u8], kind: Kind) -> Result<bool, Refusal> {
     let [_, yes, ..] = ask(|result, len| unsafe {
         sluicepod_is_of_kind(token.as_ptr(), token.len(), 0, token.len(), kind as u32, result, len)
@@ -217,6 +184,7 @@ pub fn mailbox(value: &[u8]) -> Result<(Range<usize>, Range<usize>), Refusal> {
 }
 
 /// Writes the bundle of the messages that the ranges lend, start and end in turn; its length.
+#[cfg(feature = "alloc")]
 pub fn write_bundle(input: &[u8], ranges: &[usize], out: &mut [u8]) -> Result<usize, Refusal> {
     let [_, len, ..] = ask(|result, result_len| unsafe {
         sluicepod_write_bundle(
@@ -346,10 +314,23 @@ fn ask(call: impl FnOnce(*mut usize, usize) -> u32) -> Result<[usize; RESULT_LEN
     }
 }
 
+/// How many numbers a record has.
+const RECORD_LEN: usize = 7;
+
+/// The record of its numbers, in the header's order.
+fn record([token_start, token_end, held, start, end, number, line]: [usize; RECORD_LEN]) -> Record {
+    Record {
+        token: token_start..token_end,
+        value: place(held, start, end),
+        ending: ending(number),
+        line,
+    }
+}
+
 fn place(held: usize, start: usize, end: usize) -> Place {
     match held {
-        0 => Place::Input(start..end),
-        _ => Place::Out,
+        0 => Place::Message(start..end),
+        _ => Place::Buffer(start..end),
     }
 }
 
@@ -415,6 +396,7 @@ extern "C" {
         result: *mut usize,
         result_len: usize,
     ) -> u32;
+    #[cfg(feature = "alloc")]
     fn sluicepod_is_of_kind(
         input: *const u8,
         input_len: usize,
@@ -433,6 +415,7 @@ extern "C" {
     ) -> u32;
     fn sluicepod_commit_message(content: *const u8, content_len: usize, result: *mut usize, result_len: usize) -> u32;
     fn sluicepod_mailbox(value: *const u8, value_len: usize, result: *mut usize, result_len: usize) -> u32;
+    #[cfg(feature = "alloc")]
     fn sluicepod_write_bundle(
         input: *const u8,
         input_len: usize,

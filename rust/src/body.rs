@@ -1,10 +1,8 @@
-use std::{borrow::Cow, iter, ops::Deref};
+use core::ops::Deref;
 
-use crate::{
-    archive::{self, Cursor, Found, Kind},
-    value::{value, with_room},
-    Ending, Refusal,
-};
+use crate::{archive, Cursor, Ending, Refusal};
+#[cfg(feature = "alloc")]
+use crate::{value::with_room, TrailerRef, Trailers};
 
 /// The body of a message, with its trailers told from the rest.
 ///
@@ -73,12 +71,18 @@ impl<'a> BodyRef<'a> {
         &self.body[..self.trailer_start]
     }
 
+    /// Where the walk of its trailers by [steps](crate::next_trailer) begins: the block's start. The LFs above are counted.
+    pub fn cursor(&self) -> Cursor {
+        Cursor::FRONT.moved_on(self.body, self.trailer_start)
+    }
+
     /// The trailers of the trailer block. Their [lines](TrailerRef::line) are counted in the body, so all of the body above
     /// them is looked at.
+    #[cfg(feature = "alloc")]
     pub fn trailers(&self) -> Trailers<'a> {
         Trailers {
             input: self.body,
-            cursor: moved_on(self.body, FRONT, self.trailer_start),
+            cursor: self.cursor(),
         }
     }
 
@@ -100,7 +104,7 @@ impl<'a> BodyRef<'a> {
     pub fn message_blocks(&self) -> MessageBlocks<'a> {
         MessageBlocks {
             body: self.body,
-            cursor: FRONT,
+            cursor: Cursor::FRONT,
             start: self.trailer_start,
         }
     }
@@ -119,6 +123,7 @@ impl<'a> BodyRef<'a> {
     /// assert_eq!(body.find(b"Records"), None);
     /// # Ok::<(), sluicepod::Refusal>(())
     /// ```
+    #[cfg(feature = "alloc")]
     pub fn find(&self, name: &[u8]) -> Option<TrailerRef<'a>> {
         // The body is within the limit and there is room, so what is refused is the name's length.
         let (found, out) = with_room(|out| archive::find_trailer(self.body, name, out)).ok()?;
@@ -137,166 +142,6 @@ impl Deref for BodyRef<'_> {
 
     fn deref(&self) -> &[u8] {
         self.without_trailer()
-    }
-}
-
-/// The trailers of a body or of a block, in order; lines that are no part of a trailer are passed over.
-#[derive(Clone, Debug)]
-pub struct Trailers<'a> {
-    // Within LIMIT.
-    pub(crate) input: &'a [u8],
-    // A place of the input, with the number of its line there.
-    pub(crate) cursor: Cursor,
-}
-
-/// The cursor of an input's front.
-const FRONT: Cursor = Cursor { at: 0, line: 1 };
-
-/// A cursor, moved on to a later place of an input within the limit: the LFs between are counted.
-fn moved_on(input: &[u8], from: Cursor, at: usize) -> Cursor {
-    let between = &input[from.at..at];
-    let counted = archive::cursor_at(between, between.len()).expect("the end of an input within the limit");
-    Cursor {
-        at,
-        line: from.line + counted.line - 1,
-    }
-}
-
-impl<'a> Trailers<'a> {
-    /// The next trailer of the kind.
-    fn next_of(&mut self, kind: Kind) -> Option<TrailerRef<'a>> {
-        let (step, out) = with_room(|out| archive::next_trailer(self.input, self.cursor, kind, out))
-            .expect("a cursor of an input within the limit");
-        self.cursor = step.next;
-        Some(TrailerRef::at(self.input, step.found?, out))
-    }
-
-    fn only(mut self, kind: Kind) -> impl Iterator<Item = TrailerRef<'a>> {
-        iter::from_fn(move || self.next_of(kind))
-    }
-}
-
-impl<'a> Iterator for Trailers<'a> {
-    type Item = TrailerRef<'a>;
-
-    fn next(&mut self) -> Option<TrailerRef<'a>> {
-        self.next_of(Kind::All)
-    }
-}
-
-/// The trailers that are left, by kind; tokens are compared without regard to ASCII case.
-impl<'a> Trailers<'a> {
-    /// Those of `Signed-off-by`.
-    pub fn signed_off_by(self) -> impl Iterator<Item = TrailerRef<'a>> {
-        self.only(Kind::SignedOffBy)
-    }
-
-    /// Those of `Co-authored-by`.
-    pub fn co_authored_by(self) -> impl Iterator<Item = TrailerRef<'a>> {
-        self.only(Kind::CoAuthoredBy)
-    }
-
-    /// Those of `Assisted-by`.
-    pub fn assisted_by(self) -> impl Iterator<Item = TrailerRef<'a>> {
-        self.only(Kind::AssistedBy)
-    }
-
-    /// Those of `Signed-off-by`, `Co-authored-by`, `Assisted-by`, `Acked-by`, `Reviewed-by` and `Tested-by`.
-    pub fn attributions(self) -> impl Iterator<Item = TrailerRef<'a>> {
-        self.only(Kind::Attribution)
-    }
-
-    /// Those of `Signed-off-by` and `Co-authored-by`.
-    pub fn authors(self) -> impl Iterator<Item = TrailerRef<'a>> {
-        self.only(Kind::Author)
-    }
-}
-
-/// A trailer of a body.
-#[derive(PartialEq, Eq, Debug, Hash, Ord, PartialOrd, Clone)]
-pub struct TrailerRef<'a> {
-    /// What stands before the colon, like `Signed-off-by`, without the spaces and tabs behind it.
-    pub token: &'a [u8],
-    /// What stands behind the colon, trimmed.
-    ///
-    /// A value of one line is borrowed. One that goes on in indented lines is owned: its lines are trimmed, and those
-    /// that are not empty joined by one space.
-    pub value: Cow<'a, [u8]>,
-    /// How its last line ends: where the value goes on in indented lines, the last of these.
-    ///
-    /// The original has no such field; it counts when two trailers are compared, as the others do.
-    pub ending: Ending,
-    /// The number of the line where it starts, counted from 1: one more than the LFs before it. A CR alone ends no line.
-    ///
-    /// A trailer of a [message](crate::message_trailers) is counted in the message, the title's lines included; one of a
-    /// [`BodyRef`], of its walk, its blocks or its lookup, from the body's first line. Along a walk the numbers rise.
-    ///
-    /// ```
-    /// use sluicepod::{message_trailers, MessageRef};
-    ///
-    /// let message = b"Offload of bus 7,\nsecond run\n\nAll well.\n\nVehicle: 7\nRecords: 318,\n 22 late\nUnit: 3\n";
-    /// assert!(message_trailers(message)?.map(|trailer| trailer.line).eq([6, 7, 9]));
-    /// let body = MessageRef::from_bytes(message)?.body().unwrap();
-    /// assert!(body.trailers().map(|trailer| trailer.line).eq([3, 4, 6]));
-    /// # Ok::<(), sluicepod::Refusal>(())
-    /// ```
-    ///
-    /// The original has no such field; it counts when two trailers are compared, as the others do: the same trailer on
-    /// another line is another one.
-    pub line: usize,
-}
-
-impl<'a> TrailerRef<'a> {
-    fn at(input: &'a [u8], found: Found, out: Vec<u8>) -> Self {
-        TrailerRef {
-            token: &input[found.token],
-            value: value(input, found.value, out),
-            ending: found.ending,
-            line: found.line,
-        }
-    }
-}
-
-/// Questions about the token, which is compared without regard to ASCII case.
-impl TrailerRef<'_> {
-    /// Whether it is `Signed-off-by`.
-    pub fn is_signed_off_by(&self) -> bool {
-        self.is_of(Kind::SignedOffBy)
-    }
-
-    /// Whether it is `Co-authored-by`.
-    pub fn is_co_authored_by(&self) -> bool {
-        self.is_of(Kind::CoAuthoredBy)
-    }
-
-    /// Whether it is `Assisted-by`.
-    pub fn is_assisted_by(&self) -> bool {
-        self.is_of(Kind::AssistedBy)
-    }
-
-    /// Whether it is `Acked-by`.
-    pub fn is_acked_by(&self) -> bool {
-        self.is_of(Kind::AckedBy)
-    }
-
-    /// Whether it is `Reviewed-by`.
-    pub fn is_reviewed_by(&self) -> bool {
-        self.is_of(Kind::ReviewedBy)
-    }
-
-    /// Whether it is `Tested-by`.
-    pub fn is_tested_by(&self) -> bool {
-        self.is_of(Kind::TestedBy)
-    }
-
-    /// Whether it is one of these six.
-    pub fn is_attribution(&self) -> bool {
-        self.is_of(Kind::Attribution)
-    }
-
-    /// A token over the limit, which can be put there by hand, is refused: it is none of the six.
-    fn is_of(&self, kind: Kind) -> bool {
-        archive::is_of_kind(self.token, kind).unwrap_or(false)
     }
 }
 
@@ -320,8 +165,8 @@ impl<'a> Iterator for MessageBlocks<'a> {
         let (at, start) = step.next;
         self.start = start;
         let (message_end, end) = step.ends?;
-        let cursor = moved_on(self.body, from, message_end);
-        self.cursor = moved_on(self.body, cursor, at);
+        let cursor = from.moved_on(self.body, message_end);
+        self.cursor = cursor.moved_on(self.body, at);
         Some(MessageBlock {
             message: &self.body[from.at..message_end],
             input: &self.body[..end],
@@ -344,10 +189,28 @@ pub struct MessageBlock<'a> {
 impl<'a> MessageBlock<'a> {
     /// The trailers that directly follow [`message`](MessageBlock::message); their [lines](TrailerRef::line) are counted in
     /// the body.
+    #[cfg(feature = "alloc")]
     pub fn trailers(&self) -> Trailers<'a> {
         Trailers {
             input: self.input,
             cursor: self.cursor,
         }
+    }
+
+    /// What to hand to the [steps](crate::next_trailer) for the same trailers where there is no heap: the body up to the block's
+    /// end, and the cursor that they begin at.
+    ///
+    /// ```
+    /// use sluicepod::{next_trailer, BodyRef};
+    ///
+    /// let body = BodyRef::from_bytes(b"A: b\nSigned-off-by: c\nx\nD: e\n")?;
+    /// let (input, cursor) = body.message_blocks().nth(1).unwrap().walk();
+    /// let step = next_trailer(input, cursor, &mut [])?;
+    /// assert_eq!(step.record.unwrap().line, 4);
+    /// assert_eq!(next_trailer(input, step.next, &mut [])?.record, None);
+    /// # Ok::<(), sluicepod::Refusal>(())
+    /// ```
+    pub fn walk(&self) -> (&'a [u8], Cursor) {
+        (self.input, self.cursor)
     }
 }

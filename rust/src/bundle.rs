@@ -1,6 +1,8 @@
-use std::{fmt, iter::Sum, ops::Add, ops::Range};
+use core::{fmt, iter::Sum, ops::Add};
+#[cfg(feature = "alloc")]
+use {crate::value::with_room, alloc::vec::Vec, core::ops::Range};
 
-use crate::{archive, value::with_room, Refusal};
+use crate::{archive, Refusal};
 
 /// Writes the bundle of some messages, each a range of `input`.
 ///
@@ -23,6 +25,7 @@ use crate::{archive, value::with_room, Refusal};
 /// In this order: [`Refusal::TooLong`], where the input is longer than [`LIMIT`](crate::LIMIT); [`Refusal::BadPlace`],
 /// where a range does not fit in it; [`Refusal::NotABundle`], where there are more than [`MOST`](Bundle::MOST) ranges;
 /// [`Refusal::TooLong`], where the bundle would be longer than the limit.
+#[cfg(feature = "alloc")]
 pub fn write_bundle(input: &[u8], ranges: &[Range<usize>]) -> Result<Vec<u8>, Refusal> {
     let ranges = flat(ranges);
     let (_, out) = with_room(|out| archive::write_bundle(input, &ranges, out))?;
@@ -31,7 +34,8 @@ pub fn write_bundle(input: &[u8], ranges: &[Range<usize>]) -> Result<Vec<u8>, Re
 
 /// Writes the bundle of some messages, each a range of `input`, to the front of `out`; answers its length.
 ///
-/// The bytes of `out` behind it are kept, and on a refusal all of them.
+/// The bytes of `out` behind it are kept, and on a refusal all of them. The ranges are copied to the heap, in the form that the
+/// archive takes.
 ///
 /// ```
 /// use sluicepod::{write_bundle_into, Refusal};
@@ -46,11 +50,13 @@ pub fn write_bundle(input: &[u8], ranges: &[Range<usize>]) -> Result<Vec<u8>, Re
 /// # Errors
 ///
 /// Those of [`write_bundle`], and behind them [`Refusal::NoRoom`], where `out` is shorter than the bundle.
+#[cfg(feature = "alloc")]
 pub fn write_bundle_into(input: &[u8], ranges: &[Range<usize>], out: &mut [u8]) -> Result<usize, Refusal> {
     archive::write_bundle(input, &flat(ranges), out)
 }
 
 /// The ranges as the archive takes them: start and end in turn.
+#[cfg(feature = "alloc")]
 fn flat(ranges: &[Range<usize>]) -> Vec<usize> {
     ranges.iter().flat_map(|range| [range.start, range.end]).collect()
 }

@@ -25,11 +25,22 @@
 //! assert_eq!(&body.find(b"Records").unwrap().value[..], b"318, 22 late");
 //! # Ok::<(), sluicepod::Refusal>(())
 //! ```
+//!
+//! # Without a heap
+//!
+//! The crate is `no_std`. The feature `alloc`, which is on by default, adds the calls that make room for what they write:
+//! [`Trailers`] and [`TrailerRef`], [`BodyRef::find`], the summaries, [`add_trailer`], and the writing of bundles. Without it,
+//! what is written goes to a buffer that the caller lends, and a trailer is told by a [`Record`] of places: [`next_trailer`],
+//! [`find_trailer`], [`summary_into`], [`message_summary_into`], [`add_trailer_into`]. All other calls need neither.
+#![no_std]
 #![deny(missing_docs, unsafe_code)]
 
+#[cfg(feature = "alloc")]
+extern crate alloc;
+
+mod addition;
 #[allow(unsafe_code)]
 mod archive;
-mod addition;
 mod body;
 mod bundle;
 mod closing;
@@ -38,19 +49,33 @@ mod ending;
 mod mailbox;
 mod message;
 mod reading;
+mod record;
 mod refusal;
+mod step;
+#[cfg(feature = "alloc")]
+mod trailers;
+#[cfg(feature = "alloc")]
 mod value;
 
-pub use addition::{add_trailer, add_trailer_into};
-pub use body::{BodyRef, MessageBlock, MessageBlocks, TrailerRef, Trailers};
-pub use bundle::{write_bundle, write_bundle_into, Bundle, Report};
+pub use addition::add_trailer_into;
+pub use body::{BodyRef, MessageBlock, MessageBlocks};
+pub use bundle::{Bundle, Report};
 pub use closing::{closing_note, may_erase, ClosingNote, Field};
 pub use commit::{CommitObject, HeaderLine};
 pub use ending::Ending;
 pub use mailbox::{mailbox, Mailbox};
-pub use message::{message_summary, message_trailers, MessageRef};
+pub use message::{message_summary_into, summary_into, MessageRef};
 pub use reading::{above_divider, message_end, Reading};
+pub use record::{Place, Record};
 pub use refusal::Refusal;
+pub use step::{find_trailer, next_trailer, Cursor, Step};
+#[cfg(feature = "alloc")]
+pub use {
+    addition::add_trailer,
+    bundle::{write_bundle, write_bundle_into},
+    message::{message_summary, message_trailers},
+    trailers::{TrailerRef, Trailers},
+};
 
 /// The longest message or body that is read, in bytes; a longer one is refused.
 pub const LIMIT: usize = 1_048_576;

@@ -1,4 +1,6 @@
-use crate::{archive, Refusal, TrailerRef};
+#[cfg(feature = "alloc")]
+use crate::TrailerRef;
+use crate::{archive, Refusal};
 
 /// A mailbox: a name and an address, each a part of the value.
 #[derive(PartialEq, Eq, Debug, Hash, Ord, PartialOrd, Clone, Copy)]
@@ -38,6 +40,7 @@ pub fn mailbox(value: &[u8]) -> Result<Mailbox<'_>, Refusal> {
     })
 }
 
+#[cfg(feature = "alloc")]
 impl TrailerRef<'_> {
     /// The name and the address of the value, where it is a [`mailbox`](crate::mailbox()).
     ///

@@ -1,10 +1,13 @@
-use std::borrow::Cow;
-
-use crate::{
-    archive,
-    value::{value, with_room},
-    BodyRef, Refusal, Trailers,
+#[cfg(feature = "alloc")]
+use {
+    crate::{
+        value::{value, with_room},
+        Cursor, Trailers,
+    },
+    alloc::borrow::Cow,
 };
+
+use crate::{archive, BodyRef, Place, Refusal};
 
 /// A message, as its title and its body.
 ///
@@ -48,6 +51,7 @@ impl<'a> MessageRef<'a> {
     ///
     /// [`from_bytes`](MessageRef::from_bytes) gives no title longer than [`LIMIT`](crate::LIMIT). One that was put there
     /// by hand is given back as it stands; [`message_summary`] refuses it.
+    #[cfg(feature = "alloc")]
     pub fn summary(&self) -> Cow<'a, [u8]> {
         let title = self.title;
         match with_room(|out| archive::summary(title, out)) {
@@ -63,6 +67,33 @@ impl<'a> MessageRef<'a> {
     pub fn body(&self) -> Option<BodyRef<'a>> {
         BodyRef::from_bytes(self.body?).ok()
     }
+}
+
+/// The summary of a title, in one line, where there is no heap: one of several lines is written to the front of `out`.
+///
+/// The rule is that of [`MessageRef::summary`]. The bytes of `out` behind the summary are kept, and on a refusal all of them;
+/// `out` of the title's length is always enough.
+///
+/// ```
+/// use sluicepod::{summary_into, Place, Refusal};
+///
+/// let title = b"Offload of bus 7,\nsecond run";
+/// let mut out = [b'.'; 30];
+/// let place = summary_into(title, &mut out)?;
+/// assert_eq!(place, Place::Buffer(0..28));
+/// assert_eq!(place.bytes(title, &out), b"Offload of bus 7, second run");
+/// assert_eq!(&out[28..], b"..");
+/// assert_eq!(summary_into(title, &mut out[..27]), Err(Refusal::NoRoom { needed: 28 }));
+/// assert_eq!(summary_into(b" one line ", &mut []), Ok(Place::Message(1..9)));
+/// # Ok::<(), Refusal>(())
+/// ```
+///
+/// # Errors
+///
+/// [`Refusal::TooLong`], where the title is longer than [`LIMIT`](crate::LIMIT); [`Refusal::NoRoom`], where `out` is shorter
+/// than the summary to be written.
+pub fn summary_into(title: &[u8], out: &mut [u8]) -> Result<Place, Refusal> {
+    archive::summary(title, out)
 }
 
 /// The summary of a whole message, by the rule for a title: what the original has as `CommitRef::message_summary()`.
@@ -81,9 +112,24 @@ impl<'a> MessageRef<'a> {
 /// # Errors
 ///
 /// [`Refusal::TooLong`], where the message is longer than [`LIMIT`](crate::LIMIT).
+#[cfg(feature = "alloc")]
 pub fn message_summary(message: &[u8]) -> Result<Cow<'_, [u8]>, Refusal> {
     let (place, out) = with_room(|out| archive::message_summary(message, out))?;
     Ok(value(message, place, out))
+}
+
+/// The summary of a whole message where there is no heap, as [`message_summary`] gives it: one of several lines is written to
+/// the front of `out`.
+///
+/// The bytes of `out` behind the summary are kept, and on a refusal all of them; `out` of the message's length is always
+/// enough.
+///
+/// # Errors
+///
+/// [`Refusal::TooLong`], where the message is longer than [`LIMIT`](crate::LIMIT); [`Refusal::NoRoom`], where `out` is shorter
+/// than the summary to be written.
+pub fn message_summary_into(message: &[u8], out: &mut [u8]) -> Result<Place, Refusal> {
+    archive::message_summary(message, out)
 }
 
 /// The trailers of a message's body: what the original has as `CommitRef::message_trailers()`.
@@ -105,7 +151,8 @@ pub fn message_summary(message: &[u8]) -> Result<Cow<'_, [u8]>, Refusal> {
 /// # Errors
 ///
 /// [`Refusal::TooLong`], where the message is longer than [`LIMIT`](crate::LIMIT).
+#[cfg(feature = "alloc")]
 pub fn message_trailers(message: &[u8]) -> Result<Trailers<'_>, Refusal> {
-    let cursor = archive::message_trailers(message)?;
+    let cursor = Cursor::of_message(message)?;
     Ok(Trailers { input: message, cursor })
 }

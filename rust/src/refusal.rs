@@ -1,4 +1,4 @@
-use std::fmt;
+use core::{error::Error, fmt};
 
 use crate::{Bundle, Field, LIMIT};
 
@@ -90,4 +90,4 @@ impl fmt::Display for Refusal {
     }
 }
 
-impl std::error::Error for Refusal {}
+impl Error for Refusal {}

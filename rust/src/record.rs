@@ -1,0 +1,75 @@
+use core::ops::Range;
+
+use crate::Ending;
+
+/// Where a value or a summary stands: in the input, or in the buffer that was lent for it.
+#[derive(PartialEq, Eq, Debug, Hash, Clone)]
+pub enum Place {
+    /// A part of the input as it stands; nothing was written for it.
+    Message(Range<usize>),
+    /// A part of the buffer, to which it was written.
+    Buffer(Range<usize>),
+}
+
+impl Place {
+    /// The bytes there, of the input and the buffer that the call was lent.
+    ///
+    /// # Panics
+    ///
+    /// Where the part does not fit: `message` or `buffer` is not the one that the call was lent.
+    pub fn bytes<'a>(&self, message: &'a [u8], buffer: &'a [u8]) -> &'a [u8] {
+        match self {
+            Place::Message(part) => &message[part.clone()],
+            Place::Buffer(part) => &buffer[part.clone()],
+        }
+    }
+}
+
+/// A trailer, told by its places: what a call gives that needs no heap.
+#[derive(PartialEq, Eq, Debug, Hash, Clone)]
+pub struct Record {
+    /// Where the token stands in the input.
+    pub token: Range<usize>,
+    /// Where the value stands: that of one line in the input, one that goes on in indented lines in the buffer, to which it
+    /// was written unfolded.
+    pub value: Place,
+    /// How the trailer's last line ends: where the value goes on in indented lines, the last of these.
+    pub ending: Ending,
+    /// The number of the line where the trailer starts, counted from 1.
+    pub line: usize,
+}
+
+impl Record {
+    /// The record of no trailer, to make a table of: no line has the number 0.
+    ///
+    /// ```
+    /// use sluicepod::Record;
+    ///
+    /// let table = [Record::EMPTY; 8];
+    /// assert!(table.iter().all(|record| record.line == 0));
+    /// ```
+    pub const EMPTY: Record = Record {
+        token: 0..0,
+        value: Place::Message(0..0),
+        ending: Ending::None,
+        line: 0,
+    };
+
+    /// The token, of the input that the call was lent.
+    ///
+    /// # Panics
+    ///
+    /// Where it does not fit in `message`, which then is another one.
+    pub fn token_bytes<'a>(&self, message: &'a [u8]) -> &'a [u8] {
+        &message[self.token.clone()]
+    }
+
+    /// The value, of the input and the buffer that the call was lent.
+    ///
+    /// # Panics
+    ///
+    /// Where it does not fit: `message` or `buffer` is another one.
+    pub fn value_bytes<'a>(&self, message: &'a [u8], buffer: &'a [u8]) -> &'a [u8] {
+        self.value.bytes(message, buffer)
+    }
+}
