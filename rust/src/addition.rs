@@ -31,7 +31,7 @@ use crate::{archive, Refusal};
 /// would be longer than the limit.
 #[cfg(feature = "alloc")]
 pub fn add_trailer(message: &[u8], token: &[u8], value: &[u8]) -> Result<Vec<u8>, Refusal> {
-    let (_, out) = with_room(|out| archive::add_trailer(message, token, value, out))?;
+    let (_, out) = with_room(|out| archive::add_trailer(message, token, value, out), |&len| len)?;
     Ok(out)
 }
 

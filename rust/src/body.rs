@@ -2,7 +2,7 @@ use core::ops::Deref;
 
 use crate::{archive, Cursor, Ending, Refusal};
 #[cfg(feature = "alloc")]
-use crate::{value::with_room, TrailerRef, Trailers};
+use crate::{value::with_room, Record, TrailerRef, Trailers};
 
 /// The body of a message, with its trailers told from the rest.
 ///
@@ -126,7 +126,8 @@ impl<'a> BodyRef<'a> {
     #[cfg(feature = "alloc")]
     pub fn find(&self, name: &[u8]) -> Option<TrailerRef<'a>> {
         // The body is within the limit and there is room, so what is refused is the name's length.
-        let (found, out) = with_room(|out| archive::find_trailer(self.body, name, out)).ok()?;
+        let find = |out: &mut [u8]| archive::find_trailer(self.body, name, out);
+        let (found, out) = with_room(find, |found| found.as_ref().map_or(0, Record::written)).ok()?;
         Some(TrailerRef::at(self.body, found?, out))
     }
 }

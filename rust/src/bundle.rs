@@ -28,7 +28,7 @@ use crate::{archive, Refusal};
 #[cfg(feature = "alloc")]
 pub fn write_bundle(input: &[u8], ranges: &[Range<usize>]) -> Result<Vec<u8>, Refusal> {
     let ranges = flat(ranges);
-    let (_, out) = with_room(|out| archive::write_bundle(input, &ranges, out))?;
+    let (_, out) = with_room(|out| archive::write_bundle(input, &ranges, out), |&len| len)?;
     Ok(out)
 }
 

@@ -54,7 +54,7 @@ impl<'a> MessageRef<'a> {
     #[cfg(feature = "alloc")]
     pub fn summary(&self) -> Cow<'a, [u8]> {
         let title = self.title;
-        match with_room(|out| archive::summary(title, out)) {
+        match with_room(|out| archive::summary(title, out), Place::written) {
             Ok((place, out)) => value(title, place, out),
             Err(_) => Cow::Borrowed(title),
         }
@@ -114,7 +114,7 @@ pub fn summary_into(title: &[u8], out: &mut [u8]) -> Result<Place, Refusal> {
 /// [`Refusal::TooLong`], where the message is longer than [`LIMIT`](crate::LIMIT).
 #[cfg(feature = "alloc")]
 pub fn message_summary(message: &[u8]) -> Result<Cow<'_, [u8]>, Refusal> {
-    let (place, out) = with_room(|out| archive::message_summary(message, out))?;
+    let (place, out) = with_room(|out| archive::message_summary(message, out), Place::written)?;
     Ok(value(message, place, out))
 }
 

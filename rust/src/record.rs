@@ -23,6 +23,15 @@ impl Place {
             Place::Buffer(part) => &buffer[part.clone()],
         }
     }
+
+    /// How many bytes of the buffer were written for it, where there was nothing else to write.
+    #[cfg(feature = "alloc")]
+    pub(crate) fn written(&self) -> usize {
+        match self {
+            Place::Message(_) => 0,
+            Place::Buffer(part) => part.end,
+        }
+    }
 }
 
 /// A trailer, told by its places: what a call gives that needs no heap.
@@ -71,5 +80,11 @@ impl Record {
     /// Where it does not fit: `message` or `buffer` is another one.
     pub fn value_bytes<'a>(&self, message: &'a [u8], buffer: &'a [u8]) -> &'a [u8] {
         self.value.bytes(message, buffer)
+    }
+
+    /// How many bytes of the buffer were written for its value, by a call that gives no other record.
+    #[cfg(feature = "alloc")]
+    pub(crate) fn written(&self) -> usize {
+        self.value.written()
     }
 }

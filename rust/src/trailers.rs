@@ -19,7 +19,8 @@ pub struct Trailers<'a> {
 impl<'a> Trailers<'a> {
     /// The next trailer of the kind.
     fn next_of(&mut self, kind: Kind) -> Option<TrailerRef<'a>> {
-        let (step, out) = with_room(|out| archive::next_trailer(self.input, self.cursor, kind, out))
+        let step = |out: &mut [u8]| archive::next_trailer(self.input, self.cursor, kind, out);
+        let (step, out) = with_room(step, |step| step.record.as_ref().map_or(0, Record::written))
             .expect("a cursor of an input within the limit");
         self.cursor = step.next;
         Some(TrailerRef::at(self.input, step.record?, out))

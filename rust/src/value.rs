@@ -4,19 +4,31 @@ use alloc::{borrow::Cow, vec, vec::Vec};
 
 use crate::{Place, Refusal};
 
-/// The answer of a call that may write a value, and what it wrote. It is asked without a buffer, and where it needs one,
-/// again with one of the length that it says: so it never refuses for want of room.
-pub fn with_room<T>(call: impl Fn(&mut [u8]) -> Result<T, Refusal>) -> Result<(T, Vec<u8>), Refusal> {
-    match call(&mut []) {
+/// The room that a call is lent first. Most values that are written fit in it, and then the call is made once.
+const NEAR: usize = 128;
+
+/// The answer of a call that may write, and what it wrote: as many bytes of the buffer as `written` says. It is asked with a
+/// small buffer, and where it needs a longer one, again with one of the length that it says: so it never refuses for want of
+/// room.
+pub fn with_room<T>(
+    call: impl Fn(&mut [u8]) -> Result<T, Refusal>,
+    written: impl Fn(&T) -> usize,
+) -> Result<(T, Vec<u8>), Refusal> {
+    let mut near = [0; NEAR];
+    match call(&mut near) {
         Err(Refusal::NoRoom { needed }) => {
             let mut out = vec![0; needed];
             Ok((call(&mut out)?, out))
         }
-        answer => Ok((answer?, Vec::new())),
+        answer => {
+            let answer = answer?;
+            let out = near[..written(&answer)].to_vec();
+            Ok((answer, out))
+        }
     }
 }
 
-/// The value at a place. One that was written is all of `out`, by the length that `with_room` gave it.
+/// The value at a place. One that was written is all of `out`, as `with_room` gives it.
 pub fn value(input: &[u8], place: Place, out: Vec<u8>) -> Cow<'_, [u8]> {
     match place {
         Place::Message(part) => Cow::Borrowed(&input[part]),

@@ -38,6 +38,27 @@ fn trailers() {
     assert_eq!(first.token.as_ptr(), message[3..].as_ptr());
 }
 
+/// Values that are written by a call that is made once, and by one that is made again with more room.
+#[test]
+fn written_values_of_every_length() {
+    for len in 1..300 {
+        let bytes = [b"A: ", &vec![b'b'; len][..], b"\n c\n"].concat();
+        let body = BodyRef::from_bytes(&bytes).unwrap();
+        let value = [&vec![b'b'; len][..], b" c"].concat();
+        let trailers: Vec<_> = body.trailers().collect();
+        assert_eq!(trailers.len(), 1);
+        assert_eq!(held(&bytes, trailers[0].value.clone()), Err(value));
+        assert_eq!(body.find(b"a").as_ref(), Some(&trailers[0]));
+        let title = &bytes[..bytes.len() - 1];
+        let summary = message_summary(title).unwrap();
+        assert_eq!(
+            held(title, summary.clone()),
+            Err([b"A: ", &vec![b'b'; len][..], b"  c"].concat())
+        );
+        assert_eq!(MessageRef::from_bytes(title).unwrap().summary(), summary);
+    }
+}
+
 #[test]
 fn found() {
     let bytes = b"A: b\nC: d\n e\n";
