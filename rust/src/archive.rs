@@ -3,12 +3,13 @@
 //!
 //! Each call is sound for the same reasons. Its pointers are those of slices and of an array, each with its length:
 //! good for that length and never null, as the header asks; that of an empty slice dangles, but is not null. What it
-//! writes to, `out` and `result`, is held by `&mut`, so it overlaps nothing else that is lent. And it is proved of it
-//! that on all numbers and bytes it stays inside what it is lent, and ends.
+//! writes to, `out`, `result` and a table, is held by `&mut`, so it overlaps nothing else that is lent. And it is proved of it
+//! that on all numbers and bytes it stays inside what it is lent, and ends. A table of records is lent as numbers: `listed`
+//! says why it may be.
 
-use core::ops::Range;
+use core::{mem, ops::Range};
 
-use crate::{Cursor, Ending, Field, Place, Reading, Record, Refusal, Report, Step};
+use crate::{Cursor, Ending, Field, Listed, Place, Reading, Record, Refusal, Report, Step};
 
 /// Which tokens are meant, by the header's numbers. Those of the filters are asked for where there is a heap.
 #[derive(Clone, Copy)]
@@ -133,6 +134,25 @@ pub fn find_trailer(body: &[u8], name: &[u8], out: &mut [u8]) -> Result<Option<R
         }
         _ => None,
     })
+}
+
+/// All trailers from the cursor on.
+pub fn list_from(input: &[u8], at: Cursor, table: &mut [Record], out: &mut [u8]) -> Result<Listed, Refusal> {
+    let [_, records, bytes, ..] = listed(table, |table, table_len, result, len| unsafe {
+        sluicepod_list_from(
+            input.as_ptr(),
+            input.len(),
+            at.at,
+            at.line,
+            table,
+            table_len,
+            out.as_mut_ptr(),
+            out.len(),
+            result,
+            len,
+        )
+    })?;
+    Ok(Listed { records, bytes })
 }
 
 /// The next block from `at` on, where the body's trailer block starts at `start`.
@@ -298,7 +318,14 @@ fn ask(call: impl FnOnce(*mut usize, usize) -> u32) -> Result<[usize; RESULT_LEN
         0 => Ok(result),
         1 => Err(Refusal::TooLong),
         2 => Err(Refusal::BadPlace),
-        3 => Err(Refusal::NoRoom { needed: result[1] }),
+        3 => Err(match result {
+            [2, records, bytes, ..] => Refusal::NoRoomForAll { records, bytes },
+            [_, needed, ..] => Refusal::NoRoom { needed },
+        }),
+        4 => Err(Refusal::ShortTable {
+            records: result[1],
+            bytes: result[2],
+        }),
         5 => Err(Refusal::BadToken),
         6 => Err(Refusal::BadValue),
         7 => Err(Refusal::NothingToStandOn),
@@ -314,8 +341,33 @@ fn ask(call: impl FnOnce(*mut usize, usize) -> u32) -> Result<[usize; RESULT_LEN
     }
 }
 
-/// How many numbers a record has.
+/// How many numbers a record has in a table.
 const RECORD_LEN: usize = 7;
+
+/// The numbers of a record take just the memory of a `Record`.
+const _: () = assert!(
+    mem::size_of::<Record>() == mem::size_of::<[usize; RECORD_LEN]>()
+        && mem::align_of::<Record>() == mem::align_of::<[usize; RECORD_LEN]>()
+);
+
+/// Lends a table and `result` to a call that lists, and gives back what it wrote to `result`, or its refusal. The table is lent
+/// as numbers: each record's are written to its own memory, and there the record takes their place.
+fn listed(
+    table: &mut [Record],
+    call: impl FnOnce(*mut usize, usize, *mut usize, usize) -> u32,
+) -> Result<[usize; RESULT_LEN], Refusal> {
+    let len = table.len();
+    let records = table.as_mut_ptr();
+    let numbers = records.cast::<[usize; RECORD_LEN]>();
+    let answer = ask(|result, result_len| call(numbers.cast(), len * RECORD_LEN, result, result_len))?;
+    for k in 0..answer[1] {
+        // SAFETY: it is proved of the call that a refusal leaves every entry as it was, and that an answer has written the
+        // numbers of so many records, which the table has, and nothing behind them. So these are numbers, in memory of the
+        // size and the alignment of a record. Nothing between the call and here looks at the table, or panics.
+        unsafe { records.add(k).write(record(numbers.add(k).read())) };
+    }
+    Ok(answer)
+}
 
 /// The record of its numbers, in the header's order.
 fn record([token_start, token_end, held, start, end, number, line]: [usize; RECORD_LEN]) -> Record {
@@ -383,6 +435,18 @@ extern "C" {
         body_len: usize,
         name: *const u8,
         name_len: usize,
+        out: *mut u8,
+        out_len: usize,
+        result: *mut usize,
+        result_len: usize,
+    ) -> u32;
+    fn sluicepod_list_from(
+        input: *const u8,
+        input_len: usize,
+        at: usize,
+        line: usize,
+        table: *mut usize,
+        table_len: usize,
         out: *mut u8,
         out_len: usize,
         result: *mut usize,

@@ -71,7 +71,8 @@ impl<'a> BodyRef<'a> {
         &self.body[..self.trailer_start]
     }
 
-    /// Where the walk of its trailers by [steps](crate::next_trailer) begins: the block's start. The LFs above are counted.
+    /// Where the walk of its trailers by [steps](crate::next_trailer), or their [listing](crate::list_from), begins: the block's
+    /// start. The LFs above are counted.
     pub fn cursor(&self) -> Cursor {
         Cursor::FRONT.moved_on(self.body, self.trailer_start)
     }
@@ -198,8 +199,8 @@ impl<'a> MessageBlock<'a> {
         }
     }
 
-    /// What to hand to the [steps](crate::next_trailer) for the same trailers where there is no heap: the body up to the block's
-    /// end, and the cursor that they begin at.
+    /// What to hand to the [steps](crate::next_trailer), or to the [listing](crate::list_from), for the same trailers where
+    /// there is no heap: the body up to the block's end, and the cursor that they begin at.
     ///
     /// ```
     /// use sluicepod::{next_trailer, BodyRef};

@@ -30,8 +30,9 @@
 //!
 //! The crate is `no_std`. The feature `alloc`, which is on by default, adds the calls that make room for what they write:
 //! [`Trailers`] and [`TrailerRef`], [`BodyRef::find`], the summaries, [`add_trailer`], and the writing of bundles. Without it,
-//! what is written goes to a buffer that the caller lends, and a trailer is told by a [`Record`] of places: [`next_trailer`],
-//! [`find_trailer`], [`summary_into`], [`message_summary_into`], [`add_trailer_into`]. All other calls need neither.
+//! what is written goes to a buffer that the caller lends, and a trailer is told by a [`Record`] of places: [`list_from`], which
+//! gives all of them at once, [`next_trailer`], [`find_trailer`], [`summary_into`], [`message_summary_into`],
+//! [`add_trailer_into`]. All other calls need neither.
 #![no_std]
 #![deny(missing_docs, unsafe_code)]
 
@@ -46,6 +47,7 @@ mod bundle;
 mod closing;
 mod commit;
 mod ending;
+mod listing;
 mod mailbox;
 mod message;
 mod reading;
@@ -63,6 +65,7 @@ pub use bundle::{Bundle, Report};
 pub use closing::{closing_note, may_erase, ClosingNote, Field};
 pub use commit::{CommitObject, HeaderLine};
 pub use ending::Ending;
+pub use listing::{list_from, Listed};
 pub use mailbox::{mailbox, Mailbox};
 pub use message::{message_summary_into, summary_into, MessageRef};
 pub use reading::{above_divider, message_end, Reading};

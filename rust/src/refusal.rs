@@ -17,6 +17,20 @@ pub enum Refusal {
         /// The length that is needed, in bytes; no shorter one will do.
         needed: usize,
     },
+    /// A buffer is too short for all that a listing writes, though the table is long enough.
+    NoRoomForAll {
+        /// The entries of the table that are needed.
+        records: usize,
+        /// The length of the buffer that is needed, in bytes.
+        bytes: usize,
+    },
+    /// A table is too short for what is listed.
+    ShortTable {
+        /// The entries of the table that are needed.
+        records: usize,
+        /// The length of the buffer that is needed, in bytes.
+        bytes: usize,
+    },
     /// A token that is not letters, digits or hyphens, at least one.
     BadToken,
     /// A value that has an LF, or that is not its own trim.
@@ -55,7 +69,8 @@ impl Refusal {
         match self {
             Refusal::TooLong => 1,
             Refusal::BadPlace => 2,
-            Refusal::NoRoom { .. } => 3,
+            Refusal::NoRoom { .. } | Refusal::NoRoomForAll { .. } => 3,
+            Refusal::ShortTable { .. } => 4,
             Refusal::BadToken => 5,
             Refusal::BadValue => 6,
             Refusal::NothingToStandOn => 7,
@@ -76,6 +91,16 @@ impl fmt::Display for Refusal {
             Refusal::TooLong => write!(f, "the input is longer than {} bytes", LIMIT),
             Refusal::BadPlace => write!(f, "the position or range is not in the input"),
             Refusal::NoRoom { needed } => write!(f, "the buffer is too short: {} bytes are needed", needed),
+            Refusal::NoRoomForAll { records, bytes } => write!(
+                f,
+                "the buffer is too short: {} records and {} bytes are needed",
+                records, bytes
+            ),
+            Refusal::ShortTable { records, bytes } => write!(
+                f,
+                "the table is too short: {} records and {} bytes are needed",
+                records, bytes
+            ),
             Refusal::BadToken => write!(f, "the token is not letters, digits or hyphens, at least one"),
             Refusal::BadValue => write!(f, "the value has a line feed, or white space at an end"),
             Refusal::NothingToStandOn => write!(f, "the message has no line that is not blank"),

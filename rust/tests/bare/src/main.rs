@@ -6,8 +6,9 @@
 use core::panic::PanicInfo;
 
 use sluicepod::{
-    above_divider, add_trailer_into, closing_note, find_trailer, mailbox, may_erase, message_end, message_summary_into,
-    next_trailer, summary_into, BodyRef, Bundle, CommitObject, Cursor, Ending, MessageRef, Place, Reading, Refusal,
+    above_divider, add_trailer_into, closing_note, find_trailer, list_from, mailbox, may_erase, message_end,
+    message_summary_into, next_trailer, summary_into, BodyRef, Bundle, CommitObject, Cursor, Ending, MessageRef, Place,
+    Reading, Record, Refusal,
 };
 
 #[link(name = "c")]
@@ -25,6 +26,7 @@ fn panicked(_: &PanicInfo<'_>) -> ! {
 pub extern "C" fn main() -> i32 {
     parts();
     steps();
+    lists();
     blocks();
     written();
     readings();
@@ -70,6 +72,17 @@ fn steps() {
     let state = find_trailer(bytes, b"offload-state", &mut []).unwrap().unwrap();
     assert!(state.token_bytes(bytes) == b"Offload-state" && state.value_bytes(bytes, &[]) == b"complete");
     assert!(find_trailer(bytes, b"records", &mut [0; 11]) == Err(Refusal::NoRoom { needed: 12 }));
+}
+
+fn lists() {
+    let at = Cursor::of_message(ENTRY).unwrap();
+    let (mut table, mut out) = ([Record::EMPTY; 5], [b'.'; 14]);
+    let listed = list_from(ENTRY, at, &mut table, &mut out).unwrap();
+    assert!((listed.records, listed.bytes) == (4, 12) && &out == b"318, 22 late..");
+    assert!(table[1].value == Place::Buffer(0..12) && table[3].line == 10 && table[4] == Record::EMPTY);
+    let (records, bytes) = (4, 12);
+    assert!(list_from(ENTRY, at, &mut table[..3], &mut out) == Err(Refusal::ShortTable { records, bytes }));
+    assert!(list_from(ENTRY, at, &mut table, &mut out[..11]) == Err(Refusal::NoRoomForAll { records, bytes }));
 }
 
 fn blocks() {
