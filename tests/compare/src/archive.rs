@@ -8,11 +8,15 @@ use crate::answers::Cursor;
 /// How many entries a result must have.
 pub const RESULT_LEN: usize = 16;
 
+/// How many numbers of a table each record has.
+pub const RECORD_LEN: usize = 7;
+
 /// The codes.
 pub const OK: u32 = 0;
 pub const TOO_LONG: u32 = 1;
 pub const BAD_PLACE: u32 = 2;
 pub const NO_ROOM: u32 = 3;
+pub const SHORT_TABLE: u32 = 4;
 pub const BAD_TOKEN: u32 = 5;
 pub const BAD_VALUE: u32 = 6;
 pub const NOTHING_TO_STAND_ON: u32 = 7;
@@ -97,6 +101,18 @@ mod declared {
             body_len: usize,
             name: *const u8,
             name_len: usize,
+            out: *mut u8,
+            out_len: usize,
+            result: *mut usize,
+            result_len: usize,
+        ) -> u32;
+        pub fn sluicepod_list_from(
+            input: *const u8,
+            input_len: usize,
+            at: usize,
+            line: usize,
+            table: *mut usize,
+            table_len: usize,
             out: *mut u8,
             out_len: usize,
             result: *mut usize,
@@ -264,6 +280,23 @@ pub fn find_trailer(body: &[u8], name: &[u8], out: &mut [u8], result: &mut [usiz
             body.len(),
             name.as_ptr(),
             name.len(),
+            out.as_mut_ptr(),
+            out.len(),
+            result.as_mut_ptr(),
+            result.len(),
+        )
+    }
+}
+
+pub fn list_from(input: &[u8], cursor: Cursor, table: &mut [usize], out: &mut [u8], result: &mut [usize]) -> u32 {
+    unsafe {
+        declared::sluicepod_list_from(
+            input.as_ptr(),
+            input.len(),
+            cursor.at,
+            cursor.line,
+            table.as_mut_ptr(),
+            table.len(),
             out.as_mut_ptr(),
             out.len(),
             result.as_mut_ptr(),

@@ -1,7 +1,7 @@
 //! The original, unchanged, beside Git and beside the port.
 //!
 //! `answers` says what is compared, `original` asks the original for it. `ours` asks the port for the same through
-//! `archive`, the calls that write by way of `buffers`. `inputs` has the inputs, and
+//! `archive`, the calls that write by way of `buffers`, those that list by way of `listing`. `inputs` has the inputs, and
 //!
 //! ```text
 //! let plan = Plan { seed: 1, deeper: 0, messages: 100_000, long: true };
@@ -22,6 +22,8 @@ pub mod commits;
 pub mod divider;
 pub mod git;
 pub mod inputs;
+#[cfg(feature = "archive")]
+pub mod listing;
 pub mod original;
 #[cfg(feature = "archive")]
 pub mod ours;

@@ -16,6 +16,7 @@ use crate::{
         NO_KIND, NO_ROOM, OK, RESULT_LEN, REVIEWED_BY, SHORT_RESULT, SIGNED_OFF_BY, TESTED_BY, TOO_LONG,
     },
     buffers::{ask, Said},
+    listing,
 };
 
 /// What a call is lent: inputs and a buffer, and its result.
@@ -33,6 +34,7 @@ pub struct Calls {
     pub cursor_at: fn(&Bytes, usize, &mut Numbers) -> u32,
     pub next_trailer: fn(&Bytes, Cursor, u32, &mut Bytes, &mut Numbers) -> u32,
     pub find_trailer: fn(&Bytes, &Bytes, &mut Bytes, &mut Numbers) -> u32,
+    pub list_from: fn(&Bytes, Cursor, &mut Numbers, &mut Bytes, &mut Numbers) -> u32,
     pub next_block: fn(&Bytes, usize, usize, &mut Numbers) -> u32,
     pub is_of_kind: fn(&Bytes, usize, usize, u32, &mut Numbers) -> u32,
 }
@@ -47,6 +49,7 @@ pub const ARCHIVE: Calls = Calls {
     cursor_at: archive::cursor_at,
     next_trailer: archive::next_trailer,
     find_trailer: archive::find_trailer,
+    list_from: archive::list_from,
     next_block: archive::next_block,
     is_of_kind: archive::is_of_kind,
 };
@@ -78,6 +81,9 @@ impl Calls {
         let trailers = self.walk(input, walk_start, ALL)?;
         let attributions: Vec<Attribution> = all(&trailers, |trailer| self.attribution(input, trailer.token))?;
         self.hold_other_kinds(input, walk_start, &trailers, &attributions)?;
+        for from in [message_walk_start, Cursor::FRONT] {
+            self.hold_listing(input, from)?;
+        }
         Ok(Reading {
             title_end,
             body_start,
@@ -132,6 +138,17 @@ impl Calls {
             }
         }
         Ok(())
+    }
+
+    /// The listing from a cursor: what the archive's steps from there give.
+    fn hold_listing(&self, body: &[u8], from: Cursor) -> Found<()> {
+        let steps = listing::stepped(body, from, |cursor, out, result| {
+            archive::next_trailer(body, cursor, ALL, out, result)
+        });
+        listing::hold(&steps, |table, out, result| {
+            (self.list_from)(body, from, table, out, result)
+        })
+        .map_err(NoReading::Broke)
     }
 
     fn title_and_body(&self, message: &[u8]) -> Found<(usize, Option<usize>)> {
@@ -297,6 +314,7 @@ impl Calls {
         visit(&|_, result| (self.cursor_at)(input, 0, result))?;
         visit(&|out, result| (self.next_trailer)(input, Cursor::FRONT, ALL, out, result))?;
         visit(&|out, result| (self.find_trailer)(input, b"a", out, result))?;
+        visit(&|out, result| (self.list_from)(input, Cursor::FRONT, &mut [], out, result))?;
         visit(&|_, result| (self.next_block)(input, 0, 0, result))?;
         visit(&|_, result| (self.is_of_kind)(input, 0, 0, ALL, result))
     }
@@ -337,6 +355,9 @@ impl Calls {
             (usize::MAX, usize::MAX),
         ];
         for (at, line) in bad {
+            refused(code, |out, result| {
+                (self.list_from)(input, Cursor { at, line }, &mut [], out, result)
+            })?;
             for kind in [ALL, AUTHOR] {
                 refused(code, |out, result| {
                     (self.next_trailer)(input, Cursor { at, line }, kind, out, result)
@@ -510,7 +531,13 @@ fn part(input: &[u8], start: usize, end: usize) -> Found<Part> {
 #[cfg(test)]
 mod tests {
     use super::*;
-    use crate::{answers::difference, inputs::Plan, original, search::compare};
+    use crate::{
+        answers::difference,
+        archive::{RECORD_LEN, SHORT_TABLE},
+        inputs::Plan,
+        original,
+        search::compare,
+    };
 
     const SHORT: Plan = Plan {
         seed: 1,
@@ -734,6 +761,43 @@ mod tests {
         }
         let faulty = Calls {
             next_trailer: tests_nothing,
+            ..ARCHIVE
+        };
+        assert_eq!(caught(&faulty), (b"a:".to_vec(), "refusal"));
+    }
+
+    #[test]
+    fn a_listed_place_that_counts_from_its_own_value_is_caught() {
+        fn from_its_own(input: &[u8], from: Cursor, table: &mut [usize], out: &mut [u8], result: &mut [usize]) -> u32 {
+            let code = archive::list_from(input, from, table, out, result);
+            if code == OK {
+                for record in table.chunks_mut(RECORD_LEN).take(result[1]) {
+                    if let [_, _, 1, start, end, ..] = record {
+                        (*start, *end) = (0, *end - *start);
+                    }
+                }
+            }
+            code
+        }
+        let faulty = Calls {
+            list_from: from_its_own,
+            ..ARCHIVE
+        };
+        assert_eq!(caught(&faulty), (b"a:\n a\na:\n a".to_vec(), "refusal"));
+    }
+
+    #[test]
+    fn a_listing_that_stops_at_the_table_s_end_is_caught() {
+        fn what_fits(input: &[u8], from: Cursor, table: &mut [usize], out: &mut [u8], result: &mut [usize]) -> u32 {
+            let code = archive::list_from(input, from, table, out, result);
+            if code == SHORT_TABLE {
+                result[1] = table.len() / RECORD_LEN;
+                return OK;
+            }
+            code
+        }
+        let faulty = Calls {
+            list_from: what_fits,
             ..ARCHIVE
         };
         assert_eq!(caught(&faulty), (b"a:".to_vec(), "refusal"));
