@@ -155,6 +155,30 @@ pub fn list_from(input: &[u8], at: Cursor, table: &mut [Record], out: &mut [u8])
     Ok(Listed { records, bytes })
 }
 
+/// All trailers of a message in a reading.
+pub fn list_trailers(
+    message: &[u8],
+    reading: Reading,
+    table: &mut [Record],
+    out: &mut [u8],
+) -> Result<Listed, Refusal> {
+    let number = reading_number(reading);
+    let [_, records, bytes, ..] = listed(table, |table, table_len, result, len| unsafe {
+        sluicepod_list_trailers(
+            message.as_ptr(),
+            message.len(),
+            number,
+            table,
+            table_len,
+            out.as_mut_ptr(),
+            out.len(),
+            result,
+            len,
+        )
+    })?;
+    Ok(Listed { records, bytes })
+}
+
 /// The next block from `at` on, where the body's trailer block starts at `start`.
 pub fn next_block(body: &[u8], at: usize, start: usize) -> Result<BlockStep, Refusal> {
     let answer = ask(|result, len| unsafe { sluicepod_next_block(body.as_ptr(), body.len(), at, start, result, len) })?;
@@ -445,6 +469,17 @@ extern "C" {
         input_len: usize,
         at: usize,
         line: usize,
+        table: *mut usize,
+        table_len: usize,
+        out: *mut u8,
+        out_len: usize,
+        result: *mut usize,
+        result_len: usize,
+    ) -> u32;
+    fn sluicepod_list_trailers(
+        message: *const u8,
+        message_len: usize,
+        reading: u32,
         table: *mut usize,
         table_len: usize,
         out: *mut u8,

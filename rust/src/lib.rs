@@ -30,9 +30,20 @@
 //!
 //! The crate is `no_std`. The feature `alloc`, which is on by default, adds the calls that make room for what they write:
 //! [`Trailers`] and [`TrailerRef`], [`BodyRef::find`], the summaries, [`add_trailer`], and the writing of bundles. Without it,
-//! what is written goes to a buffer that the caller lends, and a trailer is told by a [`Record`] of places: [`list_from`], which
-//! gives all of them at once, [`next_trailer`], [`find_trailer`], [`summary_into`], [`message_summary_into`],
-//! [`add_trailer_into`]. All other calls need neither.
+//! what is written goes to a buffer that the caller lends, and a trailer is told by a [`Record`] of places: [`list_trailers`]
+//! and [`list_from`], which give all of them at once, [`next_trailer`], [`find_trailer`], [`summary_into`],
+//! [`message_summary_into`], [`add_trailer_into`]. All other calls need neither.
+//!
+//! ```
+//! use sluicepod::{list_trailers, Reading, Record};
+//!
+//! let message = b"Offload of bus 7\n\nVehicle: 7\nRecords: 318,\n 22 late\nOffload-state: complete\n";
+//! let (mut table, mut out) = ([Record::EMPTY; 16], [0; 256]);
+//! let listed = list_trailers(message, Reading::Whole, &mut table, &mut out)?;
+//! let values = table[..listed.records].iter().map(|record| record.value_bytes(message, &out));
+//! assert!(values.eq([&b"7"[..], b"318, 22 late", b"complete"]));
+//! # Ok::<(), sluicepod::Refusal>(())
+//! ```
 #![no_std]
 #![deny(missing_docs, unsafe_code)]
 
@@ -65,7 +76,7 @@ pub use bundle::{Bundle, Report};
 pub use closing::{closing_note, may_erase, ClosingNote, Field};
 pub use commit::{CommitObject, HeaderLine};
 pub use ending::Ending;
-pub use listing::{list_from, Listed};
+pub use listing::{list_from, list_trailers, Listed};
 pub use mailbox::{mailbox, Mailbox};
 pub use message::{message_summary_into, summary_into, MessageRef};
 pub use reading::{above_divider, message_end, Reading};

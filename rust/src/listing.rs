@@ -1,4 +1,4 @@
-use crate::{archive, Cursor, Record, Refusal};
+use crate::{archive, Cursor, Reading, Record, Refusal};
 
 /// How much a listing wrote.
 #[derive(PartialEq, Eq, Debug, Hash, Clone, Copy)]
@@ -39,4 +39,34 @@ pub struct Listed {
 /// two give both counts that are needed.
 pub fn list_from(input: &[u8], at: Cursor, table: &mut [Record], out: &mut [u8]) -> Result<Listed, Refusal> {
     archive::list_from(input, at, table, out)
+}
+
+/// All trailers of a message, in either reading: what the [steps](crate::next_trailer) from [`Cursor::of_message`] give of the
+/// message, or of what stands [above its divider](crate::above_divider), called until the end.
+///
+/// Table and buffer are filled as by [`list_from`]; places and numbers count in the message.
+///
+/// ```
+/// use sluicepod::{list_trailers, Reading, Record};
+///
+/// let mail = b"Offload of bus 7\n\nVehicle: 7\nRecords: 318,\n 22 late\n---\n notes.txt | 1 +\n";
+/// let (mut table, mut out) = ([Record::EMPTY; 8], [0; 64]);
+/// let listed = list_trailers(mail, Reading::AboveDivider, &mut table, &mut out)?;
+/// assert_eq!((listed.records, listed.bytes), (2, 12));
+/// assert_eq!((table[1].value_bytes(mail, &out), table[1].line), (&b"318, 22 late"[..], 4));
+/// assert_eq!(list_trailers(mail, Reading::Whole, &mut table, &mut out)?.records, 0);
+/// # Ok::<(), sluicepod::Refusal>(())
+/// ```
+///
+/// # Errors
+///
+/// In this order: [`Refusal::TooLong`], where the message, uncut, is longer than [`LIMIT`](crate::LIMIT);
+/// [`Refusal::ShortTable`] and [`Refusal::NoRoomForAll`], as of [`list_from`].
+pub fn list_trailers(
+    message: &[u8],
+    reading: Reading,
+    table: &mut [Record],
+    out: &mut [u8],
+) -> Result<Listed, Refusal> {
+    archive::list_trailers(message, reading, table, out)
 }

@@ -5,7 +5,9 @@ mod lent;
 
 use std::ops::Range;
 
-use sluicepod::{list_from, BodyRef, Cursor, Ending, Listed, Place, Record, Refusal, LIMIT};
+use sluicepod::{
+    above_divider, list_from, list_trailers, BodyRef, Cursor, Ending, Listed, Place, Reading, Record, Refusal, LIMIT,
+};
 
 use lent::{generated, hold, journal, lent, stepped};
 
@@ -171,5 +173,66 @@ fn from_the_front_and_from_the_walk_s_start_of_generated_inputs() {
         count += hold_from(&input, Cursor::FRONT);
         count += hold_from(&input, Cursor::of_message(&input).unwrap());
     }
+    assert!(count > 10_000, "{count}");
+}
+
+#[test]
+fn examples_of_messages() {
+    let listed = |message: &[u8], entries, room| {
+        let call = |table: &mut [Record], out: &mut [u8]| list_trailers(message, Reading::Whole, table, out);
+        lent(entries, room, call)
+    };
+    let (answer, table, out) = listed(b"t\n\nx\n\nVehicle: 7\nRecords: 318,\n 22 late\n", 2, 12); // K1.6
+    assert_eq!(answer, Ok(Listed { records: 2, bytes: 12 }));
+    let expected = [
+        record(6..13, Place::Message(15..16), Ending::Lf, 5),
+        record(17..24, Place::Buffer(0..12), Ending::Lf, 6),
+    ];
+    assert_eq!((&table[..], &out[..]), (&expected[..], &b"318, 22 late"[..]));
+
+    let (answer, table, _) = listed(b"t\n\nA: b\nB: c", 2, 0); // K8.1
+    assert_eq!(answer, Ok(Listed { records: 2, bytes: 0 }));
+    let expected = [
+        record(3..4, Place::Message(6..7), Ending::Lf, 3),
+        record(8..9, Place::Message(11..12), Ending::None, 4),
+    ];
+    assert_eq!(table, expected);
+}
+
+#[test]
+fn refusal_1_judges_the_message_uncut() {
+    let mut long = vec![b'x'; LIMIT + 1];
+    long[..4].copy_from_slice(b"---\n");
+    for reading in [Reading::Whole, Reading::AboveDivider] {
+        let listed = |message: &[u8]| lent(0, 0, |table, out| list_trailers(message, reading, table, out)).0;
+        assert_eq!(listed(&long), Err(Refusal::TooLong));
+        assert_eq!(listed(&long[..LIMIT]), Ok(Listed { records: 0, bytes: 0 }));
+    }
+}
+
+/// Holds a message's listing, in both readings, to the single steps. How many records there were.
+fn hold_message(message: &[u8]) -> usize {
+    let mut count = 0;
+    let above = above_divider(message).unwrap();
+    for (reading, read) in [(Reading::Whole, message), (Reading::AboveDivider, above)] {
+        let (table, out) = stepped(read, Cursor::of_message(read).unwrap());
+        let (records, bytes) = (table.len(), out.len());
+        let call = |table: &mut [Record], out: &mut [u8]| list_trailers(message, reading, table, out);
+        hold(Listed { records, bytes }, &table, &out, call);
+        count += records;
+    }
+    count
+}
+
+#[test]
+fn messages_of_the_journal() {
+    let count: usize = journal().iter().map(|entry| hold_message(entry)).sum();
+    assert!(count > 50, "{count}");
+}
+
+#[test]
+fn generated_messages() {
+    let messages = (0..6).flat_map(|len| generated(&PIECES, len));
+    let count: usize = messages.map(|message| hold_message(&message)).sum();
     assert!(count > 10_000, "{count}");
 }

@@ -6,9 +6,9 @@
 use core::panic::PanicInfo;
 
 use sluicepod::{
-    above_divider, add_trailer_into, closing_note, find_trailer, list_from, mailbox, may_erase, message_end,
-    message_summary_into, next_trailer, summary_into, BodyRef, Bundle, CommitObject, Cursor, Ending, MessageRef, Place,
-    Reading, Record, Refusal,
+    above_divider, add_trailer_into, closing_note, find_trailer, list_from, list_trailers, mailbox, may_erase,
+    message_end, message_summary_into, next_trailer, summary_into, BodyRef, Bundle, CommitObject, Cursor, Ending,
+    MessageRef, Place, Reading, Record, Refusal,
 };
 
 #[link(name = "c")]
@@ -79,6 +79,7 @@ fn lists() {
     let (mut table, mut out) = ([Record::EMPTY; 5], [b'.'; 14]);
     let listed = list_from(ENTRY, at, &mut table, &mut out).unwrap();
     assert!((listed.records, listed.bytes) == (4, 12) && &out == b"318, 22 late..");
+    assert!(list_trailers(ENTRY, Reading::Whole, &mut table, &mut out) == Ok(listed));
     assert!(table[1].value == Place::Buffer(0..12) && table[3].line == 10 && table[4] == Record::EMPTY);
     let (records, bytes) = (4, 12);
     assert!(list_from(ENTRY, at, &mut table[..3], &mut out) == Err(Refusal::ShortTable { records, bytes }));
