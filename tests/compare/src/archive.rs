@@ -118,6 +118,17 @@ mod declared {
             result: *mut usize,
             result_len: usize,
         ) -> u32;
+        pub fn sluicepod_list_trailers(
+            message: *const u8,
+            message_len: usize,
+            reading: u32,
+            table: *mut usize,
+            table_len: usize,
+            out: *mut u8,
+            out_len: usize,
+            result: *mut usize,
+            result_len: usize,
+        ) -> u32;
         pub fn sluicepod_next_block(
             body: *const u8,
             body_len: usize,
@@ -295,6 +306,22 @@ pub fn list_from(input: &[u8], cursor: Cursor, table: &mut [usize], out: &mut [u
             input.len(),
             cursor.at,
             cursor.line,
+            table.as_mut_ptr(),
+            table.len(),
+            out.as_mut_ptr(),
+            out.len(),
+            result.as_mut_ptr(),
+            result.len(),
+        )
+    }
+}
+
+pub fn list_trailers(message: &[u8], reading: u32, table: &mut [usize], out: &mut [u8], result: &mut [usize]) -> u32 {
+    unsafe {
+        declared::sluicepod_list_trailers(
+            message.as_ptr(),
+            message.len(),
+            reading,
             table.as_mut_ptr(),
             table.len(),
             out.as_mut_ptr(),

@@ -1,7 +1,7 @@
 //! The port in the second reading, beside the original on the cut message.
 
 use crate::{
-    answers::{Answer, NoReading, LIMIT},
+    answers::{Answer, Cursor, NoReading, LIMIT},
     archive::{self, ABOVE_DIVIDER, NO_READING, OK, RESULT_LEN, SHORT_RESULT, TOO_LONG, WHOLE},
     divider, original, ours,
 };
@@ -36,7 +36,7 @@ pub fn ours(message: &[u8]) -> Answer {
         return broke("the end is past the message, or all of it is not all");
     }
     for (reading, end) in [(WHOLE, len), (ABOVE_DIVIDER, end)] {
-        for room in [0, 1, end / 2, end] {
+        for room in [0, 1, end / 2, end, 4 * end] {
             if calls_in(message, reading, room) != calls(&message[..end], room) {
                 return broke("a call in a reading says other than the call of the message so read");
             }
@@ -53,31 +53,57 @@ fn broke<T>(how: &str) -> Result<T, NoReading> {
 const KEPT: usize = usize::MAX - 0x5a5a;
 const FILL: u8 = 0xa5;
 
-/// All that a call leaves: its code, its result and the buffer.
+/// All that a call leaves: its code, its result, the table and the buffer.
 #[derive(PartialEq, Eq)]
 struct Left {
     code: u32,
     result: [usize; RESULT_LEN],
+    table: Vec<usize>,
     out: Vec<u8>,
 }
 
 fn left(room: usize, call: impl FnOnce(&mut [u8], &mut [usize]) -> u32) -> Left {
-    let mut result = [KEPT; RESULT_LEN];
-    let mut out = vec![FILL; room];
-    let code = call(&mut out, &mut result);
-    Left { code, result, out }
+    left_listed(room, |_, out, result| call(out, result))
 }
 
-fn calls(message: &[u8], room: usize) -> [Left; 3] {
+/// As much room for numbers as for bytes.
+fn left_listed(room: usize, call: impl FnOnce(&mut [usize], &mut [u8], &mut [usize]) -> u32) -> Left {
+    let mut result = [KEPT; RESULT_LEN];
+    let (mut table, mut out) = (vec![KEPT; room], vec![FILL; room]);
+    let code = call(&mut table, &mut out, &mut result);
+    Left {
+        code,
+        result,
+        table,
+        out,
+    }
+}
+
+/// All trailers of a message, from where its walk begins.
+fn listed(message: &[u8], table: &mut [usize], out: &mut [u8], result: &mut [usize]) -> u32 {
+    let mut start = [KEPT; RESULT_LEN];
+    archive::message_trailers(message, &mut start);
+    let cursor = Cursor {
+        at: start[1],
+        line: start[2],
+    };
+    archive::list_from(message, cursor, table, out, result)
+}
+
+fn calls(message: &[u8], room: usize) -> [Left; 4] {
     [
+        left_listed(room, |table, out, result| listed(message, table, out, result)),
         left(0, |_, result| archive::title_and_body(message, result)),
         left(room, |out, result| archive::message_summary(message, out, result)),
         left(0, |_, result| archive::message_trailers(message, result)),
     ]
 }
 
-fn calls_in(message: &[u8], reading: u32, room: usize) -> [Left; 3] {
+fn calls_in(message: &[u8], reading: u32, room: usize) -> [Left; 4] {
     [
+        left_listed(room, |table, out, result| {
+            archive::list_trailers(message, reading, table, out, result)
+        }),
         left(0, |_, result| archive::title_and_body_in(message, reading, result)),
         left(room, |out, result| {
             archive::message_summary_in(message, reading, out, result)

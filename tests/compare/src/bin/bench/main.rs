@@ -7,6 +7,7 @@
 //!                        for the message's LFs
 //!     bench additions    a trailer added to a message alone
 //!     bench lines        the count of LFs beside libc's memchr alone
+//!     bench lists        all trailers of typical messages alone: by steps, and in one call
 //!
 //! The mailbox call, which the original does not have, is timed by itself, on a mebibyte and on half of it.
 //!
@@ -20,6 +21,7 @@ mod divider;
 #[cfg(feature = "libgit2")]
 mod libgit2;
 mod lines;
+mod lists;
 mod mailbox;
 mod night;
 mod race;
@@ -47,6 +49,7 @@ fn main() -> ExitCode {
         ["divider"] => return divider_table(),
         ["additions"] => |_: &[Shape]| addition_table(),
         ["lines"] => |_: &[Shape]| lines_table(),
+        ["lists"] => |_: &[Shape]| lists_table(),
         _ => {
             eprintln!("bench: no such option");
             return ExitCode::FAILURE;
@@ -81,6 +84,9 @@ fn plain(shapes: &[Shape]) {
     }
     for (name, race) in lines::rows() {
         line("LFs counted, beside memchr", name, &race);
+    }
+    for (name, [_, Row { call, race }]) in lists::rows() {
+        line(call, &name, &race);
     }
     for (name, half, whole) in mailbox::rows() {
         println!(
@@ -123,6 +129,7 @@ fn markdown(shapes: &[Shape]) {
     divider_table();
     addition_table();
     lines_table();
+    lists_table();
 }
 
 /// A trailer added: how many times as long as a copy of the message it takes.
@@ -147,6 +154,18 @@ fn lines_table() {
             race.original / 1_000.0,
             race.ours / 1_000.0,
             1.0 / race.ratio
+        );
+    }
+}
+
+/// All trailers of typical messages, beside the original's walk: by steps, and in one call.
+fn lists_table() {
+    println!("\n| message | {} |", lists::CALLS.join(" | "));
+    println!("|---|{}", "---:|".repeat(lists::CALLS.len()));
+    for (name, rows) in lists::rows() {
+        println!(
+            "| {name} | {} |",
+            rows.map(|row| format!("{:.2}", row.race.ratio)).join(" | ")
         );
     }
 }

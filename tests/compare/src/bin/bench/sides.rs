@@ -2,7 +2,7 @@
 //! that no answer is left unread and the two can be compared. None is inlined: a question costs a call on both sides.
 
 /// Takes a part of an answer into the number.
-fn taken(sum: u64, part: &[u8]) -> u64 {
+pub fn taken(sum: u64, part: &[u8]) -> u64 {
     let last = part.last().map_or(0, |&byte| u64::from(byte));
     sum.wrapping_mul(31)
         .wrapping_add(part.len() as u64)
@@ -248,7 +248,7 @@ pub mod ours {
     }
 
     /// A value at its place: which of the two holds it, its start and its end.
-    fn at<'a>(input: &'a [u8], out: &'a [u8], place: &[usize]) -> &'a [u8] {
+    pub fn at<'a>(input: &'a [u8], out: &'a [u8], place: &[usize]) -> &'a [u8] {
         let holder = if place[0] == 0 { input } else { out };
         &holder[place[1]..place[2]]
     }
