@@ -155,6 +155,32 @@ pub fn list_from(input: &[u8], at: Cursor, table: &mut [Record], out: &mut [u8])
     Ok(Listed { records, bytes })
 }
 
+/// The same, with the records as numbers: `record` gives the record of some.
+#[cfg(feature = "alloc")]
+pub fn list_numbers(
+    input: &[u8],
+    at: Cursor,
+    table: &mut [[usize; RECORD_LEN]],
+    out: &mut [u8],
+) -> Result<Listed, Refusal> {
+    let table = table.as_flattened_mut();
+    let [_, records, bytes, ..] = ask(|result, len| unsafe {
+        sluicepod_list_from(
+            input.as_ptr(),
+            input.len(),
+            at.at,
+            at.line,
+            table.as_mut_ptr(),
+            table.len(),
+            out.as_mut_ptr(),
+            out.len(),
+            result,
+            len,
+        )
+    })?;
+    Ok(Listed { records, bytes })
+}
+
 /// All trailers of a message in a reading.
 pub fn list_trailers(
     message: &[u8],
@@ -366,7 +392,7 @@ fn ask(call: impl FnOnce(*mut usize, usize) -> u32) -> Result<[usize; RESULT_LEN
 }
 
 /// How many numbers a record has in a table.
-const RECORD_LEN: usize = 7;
+pub const RECORD_LEN: usize = 7;
 
 /// The numbers of a record take just the memory of a `Record`.
 const _: () = assert!(
@@ -394,7 +420,7 @@ fn listed(
 }
 
 /// The record of its numbers, in the header's order.
-fn record([token_start, token_end, held, start, end, number, line]: [usize; RECORD_LEN]) -> Record {
+pub fn record([token_start, token_end, held, start, end, number, line]: [usize; RECORD_LEN]) -> Record {
     Record {
         token: token_start..token_end,
         value: place(held, start, end),

@@ -81,10 +81,7 @@ impl<'a> BodyRef<'a> {
     /// them is looked at.
     #[cfg(feature = "alloc")]
     pub fn trailers(&self) -> Trailers<'a> {
-        Trailers {
-            input: self.body,
-            cursor: self.cursor(),
-        }
+        Trailers::new(self.body, self.cursor())
     }
 
     /// The whole body as messages, each with the trailers that directly follow it.
@@ -193,10 +190,7 @@ impl<'a> MessageBlock<'a> {
     /// the body.
     #[cfg(feature = "alloc")]
     pub fn trailers(&self) -> Trailers<'a> {
-        Trailers {
-            input: self.input,
-            cursor: self.cursor,
-        }
+        Trailers::new(self.input, self.cursor)
     }
 
     /// What to hand to the [steps](crate::next_trailer), or to the [listing](crate::list_from), for the same trailers where

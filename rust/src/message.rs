@@ -153,6 +153,5 @@ pub fn message_summary_into(message: &[u8], out: &mut [u8]) -> Result<Place, Ref
 /// [`Refusal::TooLong`], where the message is longer than [`LIMIT`](crate::LIMIT).
 #[cfg(feature = "alloc")]
 pub fn message_trailers(message: &[u8]) -> Result<Trailers<'_>, Refusal> {
-    let cursor = Cursor::of_message(message)?;
-    Ok(Trailers { input: message, cursor })
+    Ok(Trailers::new(message, Cursor::of_message(message)?))
 }

@@ -32,6 +32,15 @@ impl Place {
             Place::Buffer(part) => part.end,
         }
     }
+
+    /// What of the buffer was written for it.
+    #[cfg(feature = "alloc")]
+    pub(crate) fn written_of<'a>(&self, buffer: &'a [u8]) -> &'a [u8] {
+        match self {
+            Place::Message(_) => &[],
+            Place::Buffer(part) => &buffer[part.clone()],
+        }
+    }
 }
 
 /// A trailer, told by its places: what a call gives that needs no heap.

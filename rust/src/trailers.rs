@@ -1,23 +1,89 @@
 use alloc::{borrow::Cow, vec::Vec};
-use core::iter;
+use core::{fmt, iter};
 
 use crate::{
-    archive::{self, Kind},
+    archive::{self, Kind, RECORD_LEN},
     value::{value, with_room},
     Cursor, Ending, Record,
 };
 
 /// The trailers of a body or of a block, in order; lines that are no part of a trailer are passed over.
-#[derive(Clone, Debug)]
+///
+/// The first step lists all trailers at once, where they are few; else they are read step by step.
+#[derive(Clone)]
 pub struct Trailers<'a> {
     // Within LIMIT.
-    pub(crate) input: &'a [u8],
-    // A place of the input, with the number of its line there.
-    pub(crate) cursor: Cursor,
+    input: &'a [u8],
+    // A place of the input, with the number of its line there; behind it are the trailers that are not listed.
+    cursor: Cursor,
+    batch: Batch,
 }
 
+/// What of a walk is listed.
+#[derive(Clone)]
+enum Batch {
+    /// Nothing, and it has not been tried.
+    Untried,
+    /// Nothing: there are too many trailers, or too long ones.
+    Steps,
+    /// All trailers that are left: the numbers of the first `len` records but those that were `given`, and what was written for
+    /// their values.
+    All {
+        table: [[usize; RECORD_LEN]; MOST],
+        out: [u8; MOST_BYTES],
+        len: usize,
+        given: usize,
+    },
+}
+
+/// How many records and bytes are listed at once: the archive needs no count where there is an entry for each line from the
+/// cursor on, and a byte for each byte.
+const MOST: usize = 12;
+const MOST_BYTES: usize = 320;
+
 impl<'a> Trailers<'a> {
-    /// The next trailer of the kind.
+    /// Those from a cursor of an input within the limit.
+    pub(crate) fn new(input: &'a [u8], cursor: Cursor) -> Self {
+        let batch = Batch::Untried;
+        Trailers { input, cursor, batch }
+    }
+
+    /// Lists what is left, if it is not much.
+    fn list(&mut self) {
+        self.batch = Batch::All {
+            table: [[0; RECORD_LEN]; MOST],
+            out: [0; MOST_BYTES],
+            len: 0,
+            given: 0,
+        };
+        if let Batch::All { table, out, len, .. } = &mut self.batch {
+            match archive::list_numbers(self.input, self.cursor, table, out) {
+                Ok(listed) => *len = listed.records,
+                Err(_) => self.batch = Batch::Steps,
+            }
+        }
+    }
+
+    /// A cursor from which a walk finds what is left.
+    fn stand(&self) -> Cursor {
+        match &self.batch {
+            Batch::All { table, len, given, .. } if given < len => {
+                let next = archive::record(table[*given]);
+                Cursor {
+                    at: next.token.start,
+                    line: next.line,
+                }
+            }
+            // Nothing is left, so the number is not asked for.
+            Batch::All { .. } => Cursor {
+                at: self.input.len(),
+                line: 1,
+            },
+            _ => self.cursor,
+        }
+    }
+
+    /// The next trailer of the kind, by a step.
     fn next_of(&mut self, kind: Kind) -> Option<TrailerRef<'a>> {
         let step = |out: &mut [u8]| archive::next_trailer(self.input, self.cursor, kind, out);
         let (step, out) = with_room(step, |step| step.record.as_ref().map_or(0, Record::written))
@@ -26,8 +92,9 @@ impl<'a> Trailers<'a> {
         Some(TrailerRef::at(self.input, step.record?, out))
     }
 
-    fn only(mut self, kind: Kind) -> impl Iterator<Item = TrailerRef<'a>> {
-        iter::from_fn(move || self.next_of(kind))
+    fn only(self, kind: Kind) -> impl Iterator<Item = TrailerRef<'a>> {
+        let mut steps = Trailers::new(self.input, self.stand());
+        iter::from_fn(move || steps.next_of(kind))
     }
 }
 
@@ -35,7 +102,28 @@ impl<'a> Iterator for Trailers<'a> {
     type Item = TrailerRef<'a>;
 
     fn next(&mut self) -> Option<TrailerRef<'a>> {
-        self.next_of(Kind::All)
+        if let Batch::Untried = self.batch {
+            self.list();
+        }
+        match &mut self.batch {
+            Batch::All { table, out, len, given } => {
+                let numbers = *table[..*len].get(*given)?;
+                *given += 1;
+                let record = archive::record(numbers);
+                let written = record.value.written_of(out).to_vec();
+                Some(TrailerRef::at(self.input, record, written))
+            }
+            _ => self.next_of(Kind::All),
+        }
+    }
+}
+
+impl fmt::Debug for Trailers<'_> {
+    fn fmt(&self, f: &mut fmt::Formatter<'_>) -> fmt::Result {
+        f.debug_struct("Trailers")
+            .field("input", &self.input)
+            .field("cursor", &self.stand())
+            .finish()
     }
 }
 

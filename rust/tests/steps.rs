@@ -103,6 +103,39 @@ fn others() {
     hold_message(&long);
 }
 
+/// As many trailers and bytes as are listed at once, fewer, and more.
+#[test]
+fn walks_of_every_length() {
+    for count in 0..30 {
+        let plain = b"Signed-off-by: a\nb: c\n".repeat(count);
+        hold_message(&[b"t\n\n", &plain[..]].concat());
+        let folded = b"a: twenty-three bytes,\n b\nAcked-by: c\n".repeat(count);
+        hold_message(&[b"t\n\nx\n\n", &folded[..]].concat());
+    }
+    for len in 280..360 {
+        hold_message(&[b"t\n\nA: ", &vec![b'b'; len][..], b"\n c\nD: e\n"].concat());
+    }
+}
+
+/// What is left of a walk, through a filter, copied, and shown.
+#[test]
+fn what_is_left() {
+    for count in [1, 5, 6, 7, 20] {
+        let message = [&b"t\n\n"[..], &b"Signed-off-by: a\nB: c\n d\n".repeat(count)].concat();
+        let all: Vec<_> = message_trailers(&message).unwrap().collect();
+        let mut walk = message_trailers(&message).unwrap();
+        for given in 0..=all.len() {
+            let left = &all[given..];
+            assert!(walk.clone().eq(left.iter().cloned()));
+            let signed = left.iter().filter(|trailer| trailer.is_signed_off_by());
+            assert!(walk.clone().signed_off_by().eq(signed.cloned()));
+            assert!(format!("{walk:?}").starts_with("Trailers { input: ["));
+            assert_eq!(walk.next().as_ref(), left.first());
+        }
+        assert_eq!(walk.next(), None);
+    }
+}
+
 #[test]
 fn refusals_in_their_order() {
     let at = |at, line| Cursor { at, line };
