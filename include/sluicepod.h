@@ -20,6 +20,7 @@
  *     SLUICEPOD_BAD_VALUE      a value that has an LF, or white space at an end
  *     SLUICEPOD_NOTHING_TO_STAND_ON
  *                              a message without a non-blank line, below which a trailer could stand
+ *     SLUICEPOD_MORE_BYTES     the last bytes of a body do not settle its trailers
  *     SLUICEPOD_MISSING        no closing note: no trailer has a field's name; the field is the one value
  *     SLUICEPOD_REPEATED       no closing note: more than one trailer has a field's name; the field is the one value
  *     SLUICEPOD_BAD_CONTENT    no closing note: a field's content is not a good one; the field is the one value
@@ -36,8 +37,8 @@
  *
  * Result. The values of an answer are written to the front of `result`: result[0] says how many there are, and
  * result[1], result[2], .. are the values, in the order that each call gives below. Entries behind them are kept.
- * The refusals TOO_LONG, BAD_PLACE, BAD_TOKEN, BAD_VALUE, NOTHING_TO_STAND_ON, NOT_A_BUNDLE, NO_READING and NO_KIND have
- * no values (result[0] is 0), those for want of room in a listing have two, the others have one.
+ * The refusals TOO_LONG, BAD_PLACE, BAD_TOKEN, BAD_VALUE, NOTHING_TO_STAND_ON, MORE_BYTES, NOT_A_BUNDLE, NO_READING and
+ * NO_KIND have no values (result[0] is 0), those for want of room in a listing have two, the others have one.
  * SHORT_RESULT alone writes nothing, neither to `result` nor to `out`. Every call asks for the same SLUICEPOD_RESULT_LEN
  * entries.
  *
@@ -86,6 +87,7 @@ enum sluicepod_code {
     SLUICEPOD_BAD_TOKEN = 5,
     SLUICEPOD_BAD_VALUE = 6,
     SLUICEPOD_NOTHING_TO_STAND_ON = 7,
+    SLUICEPOD_MORE_BYTES = 8,
     SLUICEPOD_MISSING = 9,
     SLUICEPOD_REPEATED = 10,
     SLUICEPOD_BAD_CONTENT = 11,
@@ -318,6 +320,20 @@ uint32_t sluicepod_list_from(const uint8_t *input, size_t input_len, size_t at, 
  * Values: as those of sluicepod_list_from. */
 uint32_t sluicepod_list_trailers(const uint8_t *message, size_t message_len, uint32_t reading, size_t *table,
                                  size_t table_len, uint8_t *out, size_t out_len, size_t *result, size_t result_len);
+
+/* The trailers of a body by its last bytes, `tail`; `whole` is 0 where they are not all of the body. They are those of the
+ * full walk, but places in the input are distances from the end of `tail`, so that a part's start is the greater number,
+ * and the number of a line counts upward from the last line, which is 1. Places in `out` count from its front.
+ * Where the bytes are not all, the first line is taken as torn. MORE_BYTES says that they do not settle the trailers: behind
+ * the torn line no blank line has a non-blank one below it. Then hand over more of the body's end: begin with some 4,096
+ * bytes, double them with each MORE_BYTES, and set `whole` once all of the body is there, which is never refused so.
+ * Nothing above the blank line over the last paragraph matters, so a whole body costs no more than its foot.
+ * The call refuses in the order SHORT_RESULT, TOO_LONG, MORE_BYTES, SHORT_TABLE, NO_ROOM.
+ * Values: how many records and how many bytes were written, and how many lines were looked at: from the last up to the
+ * blank line above the last paragraph, or to the top of a whole body; with SHORT_TABLE and NO_ROOM, the records and the
+ * bytes needed. */
+uint32_t sluicepod_list_foot(const uint8_t *tail, size_t tail_len, uint32_t whole, size_t *table, size_t table_len,
+                             uint8_t *out, size_t out_len, size_t *result, size_t result_len);
 
 #ifdef __cplusplus
 }

@@ -329,6 +329,7 @@ static void short_results(void) {
 #include "closing.c"
 #include "additions.c"
 #include "lists.c"
+#include "feet.c"
 
 int main(void) {
     titles_and_summaries();
@@ -348,6 +349,7 @@ int main(void) {
     closing();
     additions();
     lists();
+    feet();
     printf("tests/c: %d checks, %d failed\n", checks, failures);
     return failures != 0;
 }

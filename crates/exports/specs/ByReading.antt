@@ -1,6 +1,8 @@
--- The calls that take a reading by its number.
+-- The calls that take a reading, or whether bytes are all of a body, by a number.
+use mathlib.Core.Bool.{Bool, not}
 use mathlib.Core.List.{List, [], _∷_}
 use Prim.Native.Nat.{ℕ}
+use lib.Dec.{eqb}
 use lib.ListN.{getD}
 use Rattle.rules.specs.Answers.{Said, says}
 use Rattle.divider.specs.Readings.{inReading, leftIn}
@@ -22,3 +24,7 @@ askedIn ReadingAsked.NoReading answer message = says 253 []
 abbrev pub leftAsked : {A : Type 0} → ReadingAsked → (List ℕ → List A → List A) → List ℕ → List A → List A
 leftAsked (ReadingAsked.In reading) leaves message lent = leftIn reading leaves message lent
 leftAsked ReadingAsked.NoReading leaves message lent = lent
+
+-- whether last bytes are all of a body: any number but 0 says so
+abbrev pub isWhole : ℕ → Bool
+isWhole n = not (eqb n 0)

@@ -3,16 +3,18 @@ ghost use mathlib.Core.Path.{_≡_};
 ghost use Prim.Native.Nat.{_/_, _≤_};
 ghost use lib.ListN.{length};
 ghost use Rattle.flat.specs.Flat.{flatTable, messageTable, width};
+ghost use Rattle.foot.specs.Foot.{footAnswer};
 ghost use Rattle.listing.specs.Answers.{listingSays};
 ghost use Rattle.planning.specs.Scopes.{messageBuffer, messageListing, scopeAnswer, scopeBuffer};
 ghost use Rattle.planning.specs.declared.Scope.{Scope};
 ghost use Rattle.numbers.specs.Numbers.{bufferOf, codeOf, resultLength, resultOf};
 ghost use Rattle.exports.specs.ByKind.{cursor};
-ghost use Rattle.exports.specs.ByReading.{askedIn, leftAsked, readingOf};
+ghost use Rattle.exports.specs.ByReading.{askedIn, isWhole, leftAsked, readingOf};
 use crate::SHORT_RESULT;
 use crate::readings::NO_READING;
 use crate::readings::ReadingAsked;
 use crate::readings::reading_of;
+use flat::list_foot;
 use flat::list_from;
 use flat::list_trailers;
 use listing::Listing;
@@ -28,8 +30,14 @@ fn put_listing(answer: Listing, result: &mut [usize]) -> u32
 {
     match answer {
         Listing::Listed(counts) => put(0, &[counts.records, counts.bytes], result),
+        Listing::FootListed { counts, looked } => put(
+            0,
+            &[counts.records, counts.bytes, looked],
+            result,
+        ),
         Listing::TooLong => put(1, &[], result),
         Listing::BadPlace => put(2, &[], result),
+        Listing::MoreBytes => put(8, &[], result),
         Listing::ShortTable(counts) => put(4, &[counts.records, counts.bytes], result),
         Listing::NoRoom(counts) => put(3, &[counts.records, counts.bytes], result),
     }
@@ -77,4 +85,25 @@ pub extern "C" fn sluicepod_list_trailers(
         return put(NO_READING, &[], result);
     };
     put_listing(list_trailers(message, reading, table, out), result)
+}
+
+// The trailers of a body's foot, by the last bytes of the body; `whole` is 0 where they are not all of it.
+#[no_mangle]
+pub extern "C" fn sluicepod_list_foot(
+    tail: &[u8],
+    whole: u32,
+    table: &mut [usize],
+    out: &mut [u8],
+    result: &mut [usize],
+) -> u32
+    ensures { λ r. ⌜ r ≡ codeOf (footAnswer (now (tail .entry)) (isWhole whole) (length (now (table .entry)) / width) (length (now (out .entry)))) (now (result .entry)) ⌝ }
+    ensures { λ _. ⌜ now (result .exit) ≡ resultOf (footAnswer (now (tail .entry)) (isWhole whole) (length (now (table .entry)) / width) (length (now (out .entry)))) (now (result .entry)) ⌝ }
+    ensures { λ _. ⌜ now (table .exit) ≡ bufferOf (flatTable (now (tail .entry)) (Scope.Foot (isWhole whole)) (length (now (out .entry))) (now (table .entry))) (now (table .entry)) (now (result .entry)) ⌝ }
+    ensures { λ _. ⌜ now (out .exit) ≡ bufferOf (scopeBuffer (now (tail .entry)) (Scope.Foot (isWhole whole)) (length (now (table .entry)) / width) (now (out .entry))) (now (out .entry)) (now (result .entry)) ⌝ }
+{
+    if result.len() < RESULT_LEN {
+        return SHORT_RESULT;
+    }
+    let all = whole != 0;
+    put_listing(list_foot(tail, all, table, out), result)
 }

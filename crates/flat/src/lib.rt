@@ -4,6 +4,7 @@ ghost use Prim.Native.Nat.{_+_, _/_, _≤_};
 ghost use lib.ListN.{length};
 ghost use lib.Seq.{paste};
 ghost use Rattle.divider.specs.Readings.{inReading, leftIn};
+ghost use Rattle.foot.specs.Foot.{footAnswer};
 ghost use Rattle.listing.specs.Answers.{listingSays};
 ghost use Rattle.planning.specs.Scopes.{messageBuffer, messageListing, scopeAnswer, scopeBuffer};
 ghost use Rattle.listing.specs.Turns.{onto};
@@ -113,4 +114,14 @@ pub fn list_trailers(
     ensures { λ _. ⌜ now (out .exit) ≡ leftIn reading (messageBuffer (length (now (table .entry)) / width)) (now (message .entry)) (now (out .entry)) ⌝ }
 {
     list(message, Scope::Message(reading), table, out)
+}
+
+// The trailers of a body's foot, by the last bytes of the body and whether they are all of it. Places in the input are distances from the
+// end, and numbers count upward from the last line.
+pub fn list_foot(tail: &[u8], whole: bool, table: &mut [usize], out: &mut [u8]) -> Listing
+    ensures { λ r. ⌜ listingSays r ≡ footAnswer (now (tail .entry)) whole (length (now (table .entry)) / width) (length (now (out .entry))) ⌝ }
+    ensures { λ _. ⌜ now (table .exit) ≡ flatTable (now (tail .entry)) (Scope.Foot whole) (length (now (out .entry))) (now (table .entry)) ⌝ }
+    ensures { λ _. ⌜ now (out .exit) ≡ scopeBuffer (now (tail .entry)) (Scope.Foot whole) (length (now (table .entry)) / width) (now (out .entry)) ⌝ }
+{
+    list(tail, Scope::Foot(whole), table, out)
 }

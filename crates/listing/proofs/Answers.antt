@@ -15,17 +15,20 @@ behind (suc n) records bytes = Listing.ShortTable (counts records bytes)
 abbrev listing : Said → Listing
 listing (says zero []) = Listing.TooLong
 listing (says zero (records ∷ [])) = Listing.TooLong
-listing (says zero (records ∷ bytes ∷ rest)) = Listing.Listed (counts records bytes)
+listing (says zero (records ∷ bytes ∷ [])) = Listing.Listed (counts records bytes)
+listing (says zero (records ∷ bytes ∷ looked ∷ rest)) = Listing.FootListed (counts records bytes) looked
 listing (says (suc zero) values) = Listing.TooLong
 listing (says (suc (suc zero)) values) = Listing.BadPlace
-listing (says (suc (suc (suc n))) []) = Listing.BadPlace
+listing (says (suc (suc (suc n))) []) = Listing.MoreBytes
 listing (says (suc (suc (suc n))) (records ∷ [])) = Listing.BadPlace
 listing (says (suc (suc (suc n))) (records ∷ bytes ∷ rest)) = behind n records bytes
 
 listing-back : (a : Listing) → listing (listingSays a) ≡ a
 listing-back (Listing.Listed c) = refl
+listing-back (Listing.FootListed c looked) = refl
 listing-back Listing.TooLong = refl
 listing-back Listing.BadPlace = refl
+listing-back Listing.MoreBytes = refl
 listing-back (Listing.ShortTable c) = refl
 listing-back (Listing.NoRoom c) = refl
 

@@ -1,13 +1,13 @@
 -- The turns of a loop that lists, as facts on lists: where they start, what a turn asks of the step, what it leaves, and how they end. A
 -- record is laid into the table as the cells that `cells` makes of it: itself, or numbers. Assumes nothing.
 use mathlib.Core.Bool.{Bool, true, false, false≢true}
-use mathlib.Core.List.{List, [], _∷_, _++_}
+use mathlib.Core.List.{List, [], _∷_, _++_, map}
 use mathlib.Core.Path.{_≡_, refl, sym, ap, _∙_}
 use Prim.Native.Nat.{ℕ, suc, _+_, _≤_, _<_}
 use native.Mathlib.Omega.{arith}
 use borrow.Author.Tests.{le-ltb}
 use lib.Dec.{eqb, ltb}
-use lib.ListN.{length, take, drop, length-append}
+use lib.ListN.{length, take, drop, length-append, length-map}
 use lib.Seq.{length-take-le, take-take}
 use Rattle.rules.proofs.Number.{moved-fits}
 use Rattle.rules.proofs.Walk.{walk-moves, walk-step, walk-within}
@@ -24,12 +24,13 @@ use Rattle.rules.specs.declared.TrailerStep.{TrailerStep}
 use Rattle.rules.specs.declared.Value.{Value}
 use Rattle.body.specs.Body.{firstStep, firstWrites, stepAnswer, stepBuffer}
 use Rattle.listing.specs.Answers.{listingSays}
-use Rattle.listing.specs.Listing.{recordsOf, shiftedRecord, taken, valuesOf}
+use Rattle.listing.specs.Listing.{recordsOf, shiftedRecord, taken, tell, valuesOf}
 use Rattle.listing.specs.Turns.{Begun, Ready, Starts, aheadOf, counts, laid, leftAt, lists, moreOf, onto, readUpTo, refuses, turnOf, withCounts}
 use Rattle.listing.specs.declared.Counts.{Counts}
 use Rattle.listing.specs.declared.Listing.{Listing}
 use Rattle.listing.specs.declared.Spot.{Spot}
 use Rattle.listing.specs.declared.Step.{Step}
+use Rattle.listing.specs.declared.Told.{Told}
 use Rattle.listing.proofs.Onto.{length-onto, onto-append, onto-front, onto-nil}
 
 -- ---- the single step
@@ -76,9 +77,13 @@ unfolding recordsOf
 length-records s c used [] = refl
 length-records s c used (t ∷ ts) = ap suc (length-records s (movedOn s c (endOf t)) (used + length (writtenOf (rawValue t))) ts)
 
-none-laid : {A : Type 0} (cells : TrailerRef → List A) (s : List ℕ) (c : Cursor) (used : ℕ) → laid cells (recordsOf s c used []) ≡ []
+-- the cells of the records of some trailers, as they are told
+abbrev toldCells : {A : Type 0} → (TrailerRef → List A) → Told → List ℕ → Cursor → ℕ → List Trailer → List A
+toldCells cells told s c used ts = laid cells (map (tell told) (recordsOf s c used ts))
+
+none-laid : {A : Type 0} (cells : TrailerRef → List A) (told : Told) (s : List ℕ) (c : Cursor) (used : ℕ) → toldCells cells told s c used [] ≡ []
 unfolding recordsOf laid
-none-laid cells s c used = refl
+none-laid cells told s c used = refl
 
 no-values : valuesOf [] ≡ []
 unfolding valuesOf
@@ -89,12 +94,12 @@ unfolding valuesOf
 values-cons t ts = refl
 
 -- the first of some trailers, as it is laid
-laid-cons : {A : Type 0} (cells : TrailerRef → List A) (s : List ℕ) (c : Cursor) (used : ℕ) (t : Trailer) (ts : List Trailer)
-    → laid cells (recordsOf s c used (t ∷ ts))
-    ≡ cells (shiftedRecord used (recordOf (movedOn s c (placeOf t) .line) t))
-    ++ laid cells (recordsOf s (movedOn s c (endOf t)) (used + length (writtenOf (rawValue t))) ts)
+laid-cons : {A : Type 0} (cells : TrailerRef → List A) (told : Told) (s : List ℕ) (c : Cursor) (used : ℕ) (t : Trailer) (ts : List Trailer)
+    → toldCells cells told s c used (t ∷ ts)
+    ≡ cells (tell told (shiftedRecord used (recordOf (movedOn s c (placeOf t) .line) t)))
+    ++ toldCells cells told s (movedOn s c (endOf t)) (used + length (writtenOf (rawValue t))) ts
 unfolding recordsOf laid
-laid-cons cells s c used t ts = refl
+laid-cons cells told s c used t ts = refl
 
 -- ---- the answer's counts
 
@@ -103,15 +108,19 @@ same-counts p q = rw (p, q)
 
 recounted : (o : Listing) (c d : Counts) → withCounts (withCounts o c) d ≡ withCounts o d
 recounted (Listing.Listed k) c d = refl
+recounted (Listing.FootListed k looked) c d = refl
 recounted Listing.TooLong c d = refl
 recounted Listing.BadPlace c d = refl
+recounted Listing.MoreBytes c d = refl
 recounted (Listing.ShortTable k) c d = refl
 recounted (Listing.NoRoom k) c d = refl
 
 refusal-stays : (o : Listing) (c : Counts) → eqb (number (listingSays o)) 0 ≡ false → withCounts o c ≡ o
 refusal-stays (Listing.Listed k) c e = absurd (false≢true (sym e))
+refusal-stays (Listing.FootListed k looked) c e = absurd (false≢true (sym e))
 refusal-stays Listing.TooLong c e = refl
 refusal-stays Listing.BadPlace c e = refl
+refusal-stays Listing.MoreBytes c e = refl
 refusal-stays (Listing.ShortTable k) c e = refl
 refusal-stays (Listing.NoRoom k) c e = refl
 
@@ -143,8 +152,8 @@ pub record Turn {A : Type 0} (cells : TrailerRef → List A) (input : List ℕ) 
   pub ahead : p .more ≡ true → Ahead input lz p todo
   pub long : length l ≡ lt
   pub wide : length z ≡ lz
-  pub rooms : at + length (laid cells (recordsOf (readUpTo p input) (p .cursor) (p .done .bytes) todo)) ≤ lt
-  pub table : onto at (laid cells (recordsOf (readUpTo p input) (p .cursor) (p .done .bytes) todo)) l ≡ T
+  pub rooms : at + length (toldCells cells (p .told) (readUpTo p input) (p .cursor) (p .done .bytes) todo) ≤ lt
+  pub table : onto at (toldCells cells (p .told) (readUpTo p input) (p .cursor) (p .done .bytes) todo) l ≡ T
   pub buffer : onto (p .done .bytes) (valuesOf todo) z ≡ Z
   pub so-far : withCounts (p .outcome) (p .done) ≡ p .outcome
   pub at-last : listingSays (withCounts (p .outcome) (counts (p .done .records + length todo) (p .done .bytes + length (valuesOf todo)))) ≡ said
@@ -172,10 +181,10 @@ module _ {A : Type 0} {cells : TrailerRef → List A} {input : List ℕ} {said :
     written = writtenOf (rawValue u)
 
     abbrev cell : List A
-    cell = cells (shiftedRecord (p .done .bytes) (recordOf (movedOn s (p .cursor) (placeOf u) .line) u))
+    cell = cells (tell (p .told) (shiftedRecord (p .done .bytes) (recordOf (movedOn s (p .cursor) (placeOf u) .line) u)))
 
     abbrev later : List A
-    later = laid cells (recordsOf s (movedOn s (p .cursor) (endOf u)) (p .done .bytes + length written) us)
+    later = toldCells cells (p .told) s (movedOn s (p .cursor) (endOf u)) (p .done .bytes + length written) us
 
     walked : leftAt p input ≡ u ∷ us
     walked = here .left ∙ first .is
@@ -183,8 +192,8 @@ module _ {A : Type 0} {cells : TrailerRef → List A} {input : List ℕ} {said :
     values-are : valuesOf (t .todo) ≡ written ++ valuesOf us
     values-are = ap valuesOf (first .is) ∙ values-cons u us
 
-    cells-are : laid cells (recordsOf s (p .cursor) (p .done .bytes) (t .todo)) ≡ cell ++ later
-    cells-are = ap (λ (ts : List Trailer). laid cells (recordsOf s (p .cursor) (p .done .bytes) ts)) (first .is) ∙ laid-cons cells s (p .cursor) (p .done .bytes) u us
+    cells-are : toldCells cells (p .told) s (p .cursor) (p .done .bytes) (t .todo) ≡ cell ++ later
+    cells-are = ap (λ (ts : List Trailer). toldCells cells (p .told) s (p .cursor) (p .done .bytes) ts) (first .is) ∙ laid-cons cells (p .told) s (p .cursor) (p .done .bytes) u us
 
     fits : p .done .bytes + length written + length (valuesOf us) ≤ lz
     fits = omega (arith, here .room, ap length values-are ∙ length-append written (valuesOf us))
@@ -275,7 +284,7 @@ abbrev pub todoAt : Spot → List ℕ → List Trailer
 todoAt p input = if p .more then leftAt p input else []
 
 abbrev pub cellsAt : {A : Type 0} → (TrailerRef → List A) → Spot → List ℕ → List A
-cellsAt cells p input = laid cells (recordsOf (readUpTo p input) (p .cursor) (p .done .bytes) (todoAt p input))
+cellsAt cells p input = toldCells cells (p .told) (readUpTo p input) (p .cursor) (p .done .bytes) (todoAt p input)
 
 abbrev pub valuesAt : Spot → List ℕ → List ℕ
 valuesAt p input = valuesOf (todoAt p input)
@@ -316,7 +325,7 @@ module _ (input : List ℕ) (p : Spot) where
 
     said-all : saidAt p input ≡ said
     said-all =
-        let size : length (todoAt p input) ≡ length records = ap length todo-is ∙ sym (length-records s (p .cursor) 0 all) ∙ ap length (b .records-are) in
+        let size : length (todoAt p input) ≡ length records = ap length todo-is ∙ sym (length-records s (p .cursor) 0 all) ∙ sym (length-map (recordsOf s (p .cursor) 0 all) (tell (p .told))) ∙ ap length (b .records-are) in
         let n : p .done .records + length (todoAt p input) ≡ length records = omega (arith, size, ap (λ (c : Counts). c .records) none) in
         let m : p .done .bytes + length (valuesAt p input) ≡ length values = omega (arith, ap length values-all, ap (λ (c : Counts). c .bytes) none) in
         ap (λ (c : Counts). listingSays (withCounts (p .outcome) c)) (same-counts n m) ∙ b .at-last
@@ -345,8 +354,8 @@ module _ (input : List ℕ) (p : Spot) where
     ahead = λ h. absurd (false≢true (sym m ∙ h));
     long = refl;
     wide = refl;
-    rooms = rw (refused-todo m, none-laid cells (readUpTo p input) (p .cursor) (p .done .bytes)) (omega arith);
-    table = rw (refused-says o e, e, refused-todo m, none-laid cells (readUpTo p input) (p .cursor) (p .done .bytes)) (onto-nil 0 ys);
+    rooms = rw (refused-todo m, none-laid cells (p .told) (readUpTo p input) (p .cursor) (p .done .bytes)) (omega arith);
+    table = rw (refused-says o e, e, refused-todo m, none-laid cells (p .told) (readUpTo p input) (p .cursor) (p .done .bytes)) (onto-nil 0 ys);
     buffer = rw (refused-says o e, e, refused-todo m, no-values) (onto-nil (p .done .bytes) os);
     so-far = refusal-stays (p .outcome) (p .done) (rw o e);
     at-last = refl;

@@ -17,8 +17,10 @@ countsSay c = c .records ∷ c .bytes ∷ []
 
 abbrev pub listingSays : Listing → Said
 listingSays (Listing.Listed c) = says 0 (countsSay c)
+listingSays (Listing.FootListed c looked) = says 0 (c .records ∷ c .bytes ∷ looked ∷ [])
 listingSays Listing.TooLong = says 1 []
 listingSays Listing.BadPlace = says 2 []
+listingSays Listing.MoreBytes = says 8 []
 listingSays (Listing.ShortTable c) = says 4 (countsSay c)
 listingSays (Listing.NoRoom c) = says 3 (countsSay c)
 

@@ -1,20 +1,24 @@
 -- All trailers at once: document 02, K1. "Add a listing that fills a caller's table with one record for each trailer, in walk order;
 -- folded values are unfolded one behind another, each into the part of the buffer still free. Table and buffer hold exactly what the
 -- single steps give, called until the end, save that places in the buffer count from its own front; entries and bytes behind them stay."
+use mathlib.Core.Bool.{true, false}
 use mathlib.Core.List.{List, [], _∷_, _++_}
 use mathlib.Core.Path.{_≡_}
-use Prim.Native.Nat.{ℕ, _+_}
+use Prim.Native.Nat.{ℕ, _+_, _-_}
 use lib.ListN.{length, take, drop}
 use Rattle.rules.specs.Answers.{trailerStepSays}
+use Rattle.rules.specs.Lists.{if_then_else_}
 use Rattle.rules.specs.Number.{movedOn}
 use Rattle.rules.specs.Record.{part, recordOf, writtenOf}
 use Rattle.rules.specs.Trailer.{Trailer, endOf, placeOf, rawValue, walkFrom}
 use Rattle.rules.specs.declared.Cursor.{Cursor}
 use Rattle.rules.specs.declared.Kind.{Kind}
+use Rattle.rules.specs.declared.Part.{Part}
 use Rattle.rules.specs.declared.TrailerRef.{TrailerRef}
 use Rattle.rules.specs.declared.TrailerStep.{TrailerStep}
 use Rattle.rules.specs.declared.Value.{Value}
 use Rattle.body.specs.Body.{stepAnswer, stepBuffer}
+use Rattle.listing.specs.declared.Told.{Told}
 
 -- "places in the buffer count from its own front": those of a value in a tail that begins behind n bytes of it
 abbrev pub shifted : ℕ → Value → Value
@@ -64,3 +68,30 @@ valuesFrom input c = valuesOf (walkFrom input (c .at))
 abbrev pub sum : List ℕ → ℕ
 sum [] = 0
 sum (n ∷ ns) = n + sum ns
+
+-- a part of the input, told by its distances from the end of `size` bytes
+abbrev pub distances : ℕ → Part → Part
+distances size p = part (size - p .start) (size - p .end)
+
+abbrev pub toldValue : ℕ → Value → Value
+toldValue size (Value.InInput p) = Value.InInput (distances size p)
+toldValue size (Value.InBuffer p) = Value.InBuffer p
+
+-- told from the front, or from the end of `size` bytes, with so many lines from the walk's start on
+abbrev pub fromFront : Told
+fromFront = record { «from_end» = false; size = 0; lines = 0 }
+
+abbrev pub fromEnd : ℕ → ℕ → Told
+fromEnd size lines = record { «from_end» = true; size = size; lines = lines }
+
+-- a record as it is told; its line was counted from 1 at the walk's start
+abbrev pub tell : Told → TrailerRef → TrailerRef
+tell told r =
+    if told .«from_end» then
+    record {
+      token = distances (told .size) (r .token);
+      value = toldValue (told .size) (r .value);
+      ending = r .ending;
+      line = told .lines + 1 - r .line;
+    }
+    else r

@@ -1,6 +1,6 @@
 -- How a listing is made: it begins somewhere, and each turn gives one record and where the listing stands behind it.
 use mathlib.Core.Bool.{Bool, true, false}
-use mathlib.Core.List.{List, [], _∷_, _++_}
+use mathlib.Core.List.{List, [], _∷_, _++_, map}
 use mathlib.Core.Path.{_≡_}
 use Prim.Native.Nat.{ℕ, _+_, _≤_}
 use lib.Dec.{eqb}
@@ -16,11 +16,12 @@ use Rattle.rules.specs.declared.TrailerRef.{TrailerRef}
 use Rattle.rules.specs.declared.Value.{Value}
 use Rattle.body.specs.Body.{firstWrites}
 use Rattle.listing.specs.Answers.{listingSays}
-use Rattle.listing.specs.Listing.{recordsOf, shiftedRecord, valuesOf}
+use Rattle.listing.specs.Listing.{recordsOf, shiftedRecord, tell, valuesOf}
 use Rattle.listing.specs.declared.Counts.{Counts}
 use Rattle.listing.specs.declared.Listing.{Listing}
 use Rattle.listing.specs.declared.Spot.{Spot}
 use Rattle.listing.specs.declared.Step.{Step}
+use Rattle.listing.specs.declared.Told.{Told}
 
 -- w over d, from i on; the rest of d stays
 abbrev pub onto : {A : Type 0} → ℕ → List A → List A → List A
@@ -32,8 +33,10 @@ counts records bytes = record { records = records; bytes = bytes }
 -- an answer with other counts; a refusal stays
 abbrev pub withCounts : Listing → Counts → Listing
 withCounts (Listing.Listed k) c = Listing.Listed c
+withCounts (Listing.FootListed k looked) c = Listing.FootListed c looked
 withCounts Listing.TooLong c = Listing.TooLong
 withCounts Listing.BadPlace c = Listing.BadPlace
+withCounts Listing.MoreBytes c = Listing.MoreBytes
 withCounts (Listing.ShortTable k) c = Listing.ShortTable k
 withCounts (Listing.NoRoom k) c = Listing.NoRoom k
 
@@ -58,8 +61,8 @@ abbrev pub leftAt : Spot → List ℕ → List Trailer
 leftAt p input = walkFrom (readUpTo p input) (p .cursor .at)
 
 -- where a listing stands that has these trailers ahead
-abbrev pub standing : ℕ → Cursor → Counts → Listing → List Trailer → Spot
-standing end c done outcome ts = record { end = end; cursor = c; more = moreOf ts; ahead = aheadOf ts; done = done; outcome = outcome }
+abbrev pub standing : ℕ → Cursor → Counts → Listing → Told → List Trailer → Spot
+standing end c done outcome told ts = record { end = end; cursor = c; more = moreOf ts; ahead = aheadOf ts; done = done; outcome = outcome; told = told }
 
 -- no trailer: what stands where no record is
 abbrev pub blank : TrailerRef
@@ -71,8 +74,8 @@ turnOf p s [] = record { found = blank; next = p }
 turnOf p s (t ∷ ts) =
     let done : Counts = counts (p .done .records + 1) (p .done .bytes + length (writtenOf (rawValue t))) in
     record {
-      found = shiftedRecord (p .done .bytes) (recordOf (movedOn s (p .cursor) (placeOf t) .line) t);
-      next = standing (p .end) (movedOn s (p .cursor) (endOf t)) done (withCounts (p .outcome) done) ts;
+      found = tell (p .told) (shiftedRecord (p .done .bytes) (recordOf (movedOn s (p .cursor) (placeOf t) .line) t));
+      next = standing (p .end) (movedOn s (p .cursor) (endOf t)) done (withCounts (p .outcome) done) (p .told) ts;
     }
 
 -- a trailer is ahead, and its value has room
@@ -87,8 +90,8 @@ pub record Ready (input : List ℕ) (p : Spot) (room : ℕ) : Type 0 where
 -- where the listing of a text begins that is not refused: these records and values are to be written, and this is said then
 pub record Starts (s : List ℕ) (said : Said) (records : List TrailerRef) (values : List ℕ) (rooms room : ℕ) (p : Spot) : Type 0 where
   pub placed : cursorFits (p .cursor) s ≡ true
-  pub stands : p ≡ standing (length s) (p .cursor) (counts 0 0) (p .outcome) (walkFrom s (p .cursor .at))
-  pub records-are : recordsOf s (p .cursor) 0 (walkFrom s (p .cursor .at)) ≡ records
+  pub stands : p ≡ standing (length s) (p .cursor) (counts 0 0) (p .outcome) (p .told) (walkFrom s (p .cursor .at))
+  pub records-are : map (tell (p .told)) (recordsOf s (p .cursor) 0 (walkFrom s (p .cursor .at))) ≡ records
   pub values-are : valuesOf (walkFrom s (p .cursor .at)) ≡ values
   pub records-fit : length records ≤ rooms
   pub bytes-fit : length values ≤ room

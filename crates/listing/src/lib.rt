@@ -9,17 +9,28 @@ pub struct Counts {
     pub bytes: usize,
 }
 
-// Of a call that lists; `ShortTable` and `NoRoom` have the counts needed.
+// Of a call that lists; `ShortTable` and `NoRoom` have the counts needed. `FootListed` has the lines looked at too (document 02, K6), and
+// `MoreBytes` is for a foot alone.
 pub enum Listing {
     Listed(Counts),
+    FootListed { counts: Counts, looked: usize },
     TooLong,
     BadPlace,
+    MoreBytes,
     ShortTable(Counts),
     NoRoom(Counts),
 }
 
-// Where a listing stands: how far the input is read, the walk's cursor, whether a trailer is ahead and where, what is written so far, and
-// the answer where nothing more is.
+// How a record tells its places in the input and its line: from the front, or from the end of an input of `size` bytes, `lines` of whose
+// lines stand from the walk's start on.
+pub struct Told {
+    pub from_end: bool,
+    pub size: usize,
+    pub lines: usize,
+}
+
+// Where a listing stands: how far the input is read, the walk's cursor, whether a trailer is ahead and where, what is written so far,
+// the answer where nothing more is, and how the records are told.
 pub struct Spot {
     pub end: usize,
     pub cursor: Cursor,
@@ -27,6 +38,7 @@ pub struct Spot {
     pub ahead: Places,
     pub done: Counts,
     pub outcome: Listing,
+    pub told: Told,
 }
 
 // Of `list_step`: the next record, and where the listing stands behind it.

@@ -29,13 +29,14 @@ use Rattle.listing.specs.Listing.{taken, valuesOf}
 use Rattle.listing.specs.Turns.{standing}
 use Rattle.listing.specs.declared.Counts.{Counts}
 use Rattle.listing.specs.declared.Listing.{Listing}
+use Rattle.listing.specs.declared.Told.{Told}
 use Rattle.planning.specs.Planning.{from}
 
 -- where a listing stands that has found the next trailer
-pub found-standing : (end : ℕ) (c : Cursor) (done : Counts) (outcome : Listing) (ts : List Trailer) {at : Places} → nextOf ts ≡ NextTrailer.Trailer at
-    → record { end = end; cursor = c; more = true; ahead = at; done = done; outcome = outcome } ≡ standing end c done outcome ts
-found-standing end c done outcome [] q = let z : _≡_ {A = ℕ} 0 1 = cc in absurd (omega arith)
-found-standing end c done outcome (t ∷ ts) {at} q = let e : at ≡ placesOf t = cc in rw e
+pub found-standing : (end : ℕ) (c : Cursor) (done : Counts) (outcome : Listing) (told : Told) (ts : List Trailer) {at : Places} → nextOf ts ≡ NextTrailer.Trailer at
+    → record { end = end; cursor = c; more = true; ahead = at; done = done; outcome = outcome; told = told } ≡ standing end c done outcome told ts
+found-standing end c done outcome told [] q = let z : _≡_ {A = ℕ} 0 1 = cc in absurd (omega arith)
+found-standing end c done outcome told (t ∷ ts) {at} q = let e : at ≡ placesOf t = cc in rw e
 
 -- no more is written than the raw value has
 written-short : (raw : List ℕ) → length (writtenOf raw) ≤ length raw

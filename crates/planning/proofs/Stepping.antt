@@ -75,6 +75,10 @@ module _ (input : List ℕ) (p : Spot) (out : List ℕ) (y : Ready input p (leng
   pub read-fits : (p .ahead .«value_start» ≤ p .ahead .end) × (p .ahead .end ≤ length s)
   read-fits = let (a, b, c, d) = places-fit there places in (c, d)
 
+  -- its number is one of a line
+  pub first-line : 1 ≤ movedOn s (p .cursor) (placeOf t) .line
+  first-line = omega (arith, fits-is s (p .cursor) (y .placed))
+
   module _ {here : Cursor} (h : here ≡ movedOn s (p .cursor) (p .ahead .start)) where
     pub end-fits : (here .line ≤ here .at + 1) × (here .at ≤ p .ahead .end) × (p .ahead .end ≤ length s)
     end-fits = rw h (moved-within s (p .cursor) (p .ahead .start) (start-fits .0) (start-fits .1), omega (arith, places-fit there places), read-fits .1)

@@ -10,7 +10,7 @@ use Rattle.rules.specs.declared.Cursor.{Cursor}
 use Rattle.rules.specs.declared.TrailerRef.{TrailerRef}
 use Rattle.rules.specs.declared.Value.{Value}
 use Rattle.listing.specs.Answers.{listingSays, roomRows}
-use Rattle.listing.specs.Listing.{recordsFrom, shiftedRecord, taken, valuesFrom, valuesOf}
+use Rattle.listing.specs.Listing.{fromFront, recordsFrom, shiftedRecord, taken, tell, valuesFrom, valuesOf}
 use Rattle.listing.specs.Turns.{blank, counts, standing, withCounts}
 use Rattle.listing.specs.declared.Counts.{Counts}
 use Rattle.listing.specs.declared.Listing.{Listing}
@@ -34,8 +34,8 @@ abbrev pub found : Spot → List ℕ → TrailerRef → Cursor → Step
 found p text r next =
     let done : Counts = counts (p .done .records + 1) (p .done .bytes + taken (r .value)) in
     record {
-      found = shiftedRecord (p .done .bytes) r;
-      next = standing (length text) next done (withCounts (p .outcome) done) (walkFrom text (next .at));
+      found = tell (p .told) (shiftedRecord (p .done .bytes) r);
+      next = standing (length text) next done (withCounts (p .outcome) done) (p .told) (walkFrom text (next .at));
     }
 
 -- where it is so, there is room for all of the walk
@@ -43,7 +43,7 @@ abbrev pub Ample : List ℕ → ℕ → ℕ → ℕ → Bool → Type 0
 Ample text at rooms room ample = ample ≡ true → (length (walkFrom text at) ≤ rooms) × (length (valuesOf (walkFrom text at)) ≤ room)
 
 abbrev pub refusing : Listing → Spot
-refusing outcome = standing 0 (record { at = 0; line = 0 }) (counts 0 0) outcome []
+refusing outcome = standing 0 (record { at = 0; line = 0 }) (counts 0 0) outcome fromFront []
 
 -- what is said of a text from a cursor that fits, `outcome` where all is listed
 abbrev pub settledSays : List ℕ → Cursor → Listing → ℕ → ℕ → Said

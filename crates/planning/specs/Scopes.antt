@@ -1,4 +1,5 @@
 -- What is listed of an input: the answer, and what the table and the buffer hold afterwards.
+use mathlib.Core.Bool.{Bool}
 use mathlib.Core.List.{List}
 use mathlib.Core.Path.{_≡_}
 use Prim.Native.Nat.{ℕ}
@@ -7,6 +8,7 @@ use Rattle.rules.specs.Answers.{Said, afterwards}
 use Rattle.rules.specs.declared.TrailerRef.{TrailerRef}
 use Rattle.divider.specs.Readings.{inReading, read}
 use Rattle.divider.specs.declared.Reading.{Reading}
+use Rattle.foot.specs.Foot.{footAnswer, footRecords, footValues}
 use Rattle.message.specs.Message.{walkStart}
 use Rattle.listing.specs.Answers.{listAnswer, listingSays}
 use Rattle.listing.specs.Listing.{recordsFrom, valuesFrom}
@@ -23,14 +25,17 @@ messageBuffer rooms message out = afterwards (messageListing rooms (length out) 
 abbrev pub scopeAnswer : List ℕ → Scope → ℕ → ℕ → Said
 scopeAnswer input (Scope.From c) rooms room = listAnswer input c rooms room
 scopeAnswer input (Scope.Message reading) rooms room = inReading reading (messageListing rooms room) input
+scopeAnswer input (Scope.Foot whole) rooms room = footAnswer input whole rooms room
 
 abbrev pub scopeRecords : List ℕ → Scope → List TrailerRef
 scopeRecords input (Scope.From c) = recordsFrom input c
 scopeRecords input (Scope.Message reading) = recordsFrom (read reading input) (walkStart (read reading input))
+scopeRecords input (Scope.Foot whole) = footRecords input whole
 
 abbrev pub scopeValues : List ℕ → Scope → List ℕ
 scopeValues input (Scope.From c) = valuesFrom input c
 scopeValues input (Scope.Message reading) = valuesFrom (read reading input) (walkStart (read reading input))
+scopeValues input (Scope.Foot whole) = footValues input whole
 
 -- "entries and bytes behind them stay"
 abbrev pub scopeTable : List ℕ → Scope → ℕ → List TrailerRef → List TrailerRef

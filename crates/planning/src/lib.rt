@@ -1,8 +1,8 @@
 // The parts of a listing that decide: where it begins, its refusals, and one record after another.
 ghost use mathlib.Core.Bool.{true};
-ghost use mathlib.Core.List.{[]};
+ghost use mathlib.Core.List.{[], map};
 ghost use mathlib.Core.Path.{_≡_};
-ghost use Prim.Native.Nat.{_+_, _≤_, _<_, _^_};
+ghost use Prim.Native.Nat.{_+_, _-_, _≤_, _<_, _^_};
 ghost use lib.Dec.{eqb};
 ghost use lib.ListN.{length};
 ghost use Rattle.rules.specs.Answers.{number};
@@ -10,7 +10,7 @@ ghost use Rattle.rules.specs.Number.{cursorFits};
 ghost use Rattle.rules.specs.Trailer.{walkFrom};
 ghost use Rattle.body.specs.Body.{firstWrites};
 ghost use Rattle.listing.specs.Answers.{listingSays};
-ghost use Rattle.listing.specs.Listing.{recordsFrom, shifted, taken, valuesFrom};
+ghost use Rattle.listing.specs.Listing.{distances, fromFront, recordsFrom, shifted, taken, tell, toldValue, valuesFrom};
 ghost use Rattle.listing.specs.Turns.{Begun, Ready, counts, leftAt, onto, readUpTo, standing, turnOf, withCounts};
 ghost use Rattle.listing.specs.declared.Listing.{Listing};
 ghost use Rattle.planning.specs.declared.Scope.{Scope};
@@ -19,10 +19,13 @@ ghost use Rattle.planning.specs.Planning.{Ample, countsAt, found, from, 
 use divider::Reading;
 use divider::end_in;
 use find::count::count_lf;
+use foot::FootFound;
+use foot::find_foot;
 use listing::Counts;
 use listing::Listing;
 use listing::Spot;
 use listing::Step;
+use listing::Told;
 use message::message_trailers;
 use numbering::cursor_fits;
 use numbering::move_on;
@@ -40,10 +43,12 @@ use trailer::walk::NextTrailer;
 use trailer::walk::next_trailer_from;
 use value::written_len;
 
-// What is listed of an input: the trailers from a cursor on, or those of a message in a reading.
+// What is listed of an input: the trailers from a cursor on, those of a message in a reading, or those of a body's foot, by the last bytes
+// of the body and whether they are all of it.
 pub enum Scope {
     From(Cursor),
     Message(Reading),
+    Foot(bool),
 }
 
 // ---- one record after another
@@ -79,16 +84,18 @@ fn with_counts(outcome: Listing, counts: Counts) -> Listing
 {
     match outcome {
         Listing::Listed(_) => Listing::Listed(counts),
+        Listing::FootListed { counts: _, looked } => Listing::FootListed { counts, looked },
         Listing::TooLong => outcome,
         Listing::BadPlace => outcome,
+        Listing::MoreBytes => outcome,
         Listing::ShortTable(_) => outcome,
         Listing::NoRoom(_) => outcome,
     }
 }
 
 // Where a listing stands that has no trailer ahead.
-fn stand_last(end: usize, cursor: Cursor, done: Counts, outcome: Listing) -> Spot
-    ensures { λ r. ⌜ r ≡ standing end cursor done outcome [] ⌝ }
+fn stand_last(end: usize, cursor: Cursor, done: Counts, outcome: Listing, told: Told) -> Spot
+    ensures { λ r. ⌜ r ≡ standing end cursor done outcome told [] ⌝ }
 {
     Spot {
         end,
@@ -102,18 +109,25 @@ fn stand_last(end: usize, cursor: Cursor, done: Counts, outcome: Listing) -> Spo
         },
         done,
         outcome,
+        told,
     }
 }
 
 // Where a listing stands whose walk is at `cursor`: the next trailer is looked for.
-fn stand(text: &[u8], cursor: Cursor, done: Counts, outcome: Listing) -> Spot
+fn stand(text: &[u8], cursor: Cursor, done: Counts, outcome: Listing, told: Told) -> Spot
     requires { ⌜ cursor .at ≤ length (now text) ⌝ }
-    ensures { λ r. ⌜ r ≡ standing (length (now (text .entry))) cursor done outcome (walkFrom (now (text .entry)) (cursor .at)) ⌝ }
+    ensures { λ r. ⌜ r ≡ standing (length (now (text .entry))) cursor done outcome told (walkFrom (now (text .entry)) (cursor .at)) ⌝ }
 {
     let end = text.len();
     let at = cursor.at;
-    let NextTrailer::Trailer(ahead) = next_trailer_from(text, at) else {
-        return stand_last(end, cursor, done, outcome);
+    let NextTrailer::Trailer(found) = next_trailer_from(text, at) else {
+        return stand_last(end, cursor, done, outcome, told);
+    };
+    let ahead = Places {
+        start: found.start,
+        token_end: found.token_end,
+        value_start: found.value_start,
+        end: found.end,
     };
     Spot {
         end,
@@ -122,18 +136,87 @@ fn stand(text: &[u8], cursor: Cursor, done: Counts, outcome: Listing) -> Spot
         ahead,
         done,
         outcome,
+        told,
+    }
+}
+
+// What is left of `a` without `b`; nothing where that is more.
+fn minus(a: usize, b: usize) -> usize
+    ensures { λ r. ⌜ r ≡ a - b ⌝ }
+{
+    if a < b {
+        return 0;
+    }
+    a - b
+}
+
+// A part of the input, by its distances from the end of `size` bytes.
+fn measure(part: Part, size: usize) -> Part
+    ensures { λ r. ⌜ r ≡ distances size part ⌝ }
+{
+    let start = minus(size, part.start);
+    let end = minus(size, part.end);
+    Part { start, end }
+}
+
+// The same of a value that stands in the input.
+fn measure_value(value: Value, size: usize) -> Value
+    ensures { λ r. ⌜ r ≡ toldValue size value ⌝ }
+{
+    match value {
+        Value::InInput(part) => Value::InInput(measure(part, size)),
+        Value::InBuffer(_) => value,
+    }
+}
+
+// A record as it is told; its line was counted from 1 at the walk's start.
+fn tell(plain: TrailerRef, told: Told) -> TrailerRef
+    requires { ⌜ 1 ≤ plain .line ⌝ }
+    ensures { λ r. ⌜ r ≡ tell told plain ⌝ }
+{
+    if !told.from_end {
+        return plain;
+    }
+    let size = told.size;
+    let part = plain.token;
+    let value = plain.value;
+    let ending = plain.ending;
+    let token = measure(part, size);
+    let there = measure_value(value, size);
+    let above = minus(plain.line, 1);
+    let line = minus(told.lines, above);
+    TrailerRef {
+        token,
+        value: there,
+        ending,
+        line,
+    }
+}
+
+// How a listing is told from the front.
+fn from_front() -> Told
+    ensures { λ r. ⌜ r ≡ fromFront ⌝ }
+{
+    Told {
+        from_end: false,
+        size: 0,
+        lines: 0,
     }
 }
 
 // The turn of a trailer that was read.
 fn turn(text: &[u8], spot: Spot, read: TrailerRef, next: Cursor) -> Step
     requires { ⌜ (spot .done .bytes + taken (read .value) < 2 ^ 64) × (from (read .value) ≤ taken (read .value)) ⌝ }
-    requires { ⌜ (spot .done .records + 1 < 2 ^ 64) × (next .at ≤ length (now text)) ⌝ }
+    requires { ⌜ (spot .done .records + 1 < 2 ^ 64) × (next .at ≤ length (now text)) × (1 ≤ read .line) ⌝ }
     ensures { λ r. ⌜ r ≡ found spot (now (text .entry)) read next ⌝ }
 {
     let done = spot.done;
     let used = done.bytes;
-    let token = read.token;
+    let part = read.token;
+    let token = Part {
+        start: part.start,
+        end: part.end,
+    };
     let value = read.value;
     let ending = read.ending;
     let there = shift(value, used);
@@ -143,16 +226,16 @@ fn turn(text: &[u8], spot: Spot, read: TrailerRef, next: Cursor) -> Step
     let written = Counts { records, bytes };
     let before = spot.outcome;
     let outcome = with_counts(before, written);
-    let after = stand(text, next, written, outcome);
-    Step {
-        found: TrailerRef {
-            token,
-            value: there,
-            ending,
-            line: read.line,
-        },
-        next: after,
-    }
+    let told = spot.told;
+    let after = stand(text, next, written, outcome, told);
+    let plain = TrailerRef {
+        token,
+        value: there,
+        ending,
+        line: read.line,
+    };
+    let found = tell(plain, told);
+    Step { found, next: after }
 }
 
 // The turn where there is no trailer: the listing stays.
@@ -241,17 +324,24 @@ fn none() -> Counts
 fn refuse(outcome: Listing) -> Spot
     ensures { λ r. ⌜ r ≡ refusing outcome ⌝ }
 {
-    stand_last(0, Cursor { at: 0, line: 0 }, none(), outcome)
+    stand_last(0, Cursor { at: 0, line: 0 }, none(), outcome, from_front())
 }
 
 // Where the listing of a text from a cursor on begins, with so many rooms for records and so much room for bytes.
-fn settle(text: &[u8], cursor: Cursor, outcome: Listing, rooms: usize, room: usize) -> Spot
+fn settle(
+    text: &[u8],
+    cursor: Cursor,
+    outcome: Listing,
+    told: Told,
+    rooms: usize,
+    room: usize,
+) -> Spot
     requires { ⌜ (cursorFits cursor (now text) ≡ true) × (withCounts outcome (counts 0 0) ≡ outcome) × (eqb (number (listingSays outcome)) 0 ≡ true) ⌝ }
-    ensures { λ r. ⌜ Begun (now (text .entry)) (settledSays (now (text .entry)) cursor outcome rooms room) (recordsFrom (now (text .entry)) cursor) (valuesFrom (now (text .entry)) cursor) rooms room r ⌝ }
+    ensures { λ r. ⌜ Begun (now (text .entry)) (settledSays (now (text .entry)) cursor outcome rooms room) (map (tell told) (recordsFrom (now (text .entry)) cursor)) (valuesFrom (now (text .entry)) cursor) rooms room r ⌝ }
 {
     let at = cursor.at;
     if is_ample(text, at, rooms, room) {
-        return stand(text, cursor, none(), outcome);
+        return stand(text, cursor, none(), outcome, told);
     }
     let needed = count(text, at);
     if rooms < needed.records {
@@ -260,7 +350,7 @@ fn settle(text: &[u8], cursor: Cursor, outcome: Listing, rooms: usize, room: usi
     if room < needed.bytes {
         return refuse(Listing::NoRoom(needed));
     }
-    stand(text, cursor, none(), outcome)
+    stand(text, cursor, none(), outcome, told)
 }
 
 // The answer of a listing that has written nothing yet.
@@ -280,7 +370,7 @@ fn begin_from(input: &[u8], cursor: Cursor, rooms: usize, room: usize) -> Spot
     if !cursor_fits(cursor, input) {
         return refuse(Listing::BadPlace);
     }
-    settle(input, cursor, fresh(), rooms, room)
+    settle(input, cursor, fresh(), from_front(), rooms, room)
 }
 
 // Of a message in a reading.
@@ -295,7 +385,29 @@ fn begin_message(message: &[u8], reading: Reading, rooms: usize, room: usize) ->
     let WalkFound::From(cursor) = message_trailers(text) else {
         return refuse(Listing::TooLong);
     };
-    settle(text, cursor, fresh(), rooms, room)
+    settle(text, cursor, fresh(), from_front(), rooms, room)
+}
+
+// Of a body's foot.
+fn begin_foot(tail: &[u8], whole: bool, rooms: usize, room: usize) -> Spot
+    ensures { λ r. ⌜ Begun (now (tail .entry)) (scopeAnswer (now (tail .entry)) (Scope.Foot whole) rooms room) (scopeRecords (now (tail .entry)) (Scope.Foot whole)) (scopeValues (now (tail .entry)) (Scope.Foot whole)) rooms room r ⌝ }
+{
+    let size = tail.len();
+    if size > LIMIT {
+        return refuse(Listing::TooLong);
+    }
+    let FootFound::At { at, lines, looked } = find_foot(tail, whole) else {
+        return refuse(Listing::MoreBytes);
+    };
+    let counts = none();
+    let cursor = Cursor { at, line: 1 };
+    let outcome = Listing::FootListed { counts, looked };
+    let told = Told {
+        from_end: true,
+        size,
+        lines,
+    };
+    settle(tail, cursor, outcome, told, rooms, room)
 }
 
 // Where a listing begins, with so many rooms for records and so much room for bytes; what it answers is settled there.
@@ -305,5 +417,6 @@ pub fn begin(input: &[u8], scope: Scope, rooms: usize, room: usize) -> Spot
     match scope {
         Scope::From(cursor) => begin_from(input, cursor, rooms, room),
         Scope::Message(reading) => begin_message(input, reading, rooms, room),
+        Scope::Foot(whole) => begin_foot(input, whole, rooms, room),
     }
 }

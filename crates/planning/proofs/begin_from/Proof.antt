@@ -4,7 +4,7 @@ use borrow.Author.Tests.{lt-ltb, le-ltb, not-true, not-false}
 use lib.ListN.{length}
 use Rattle.rules.specs.Answers.{limit}
 use Rattle.listing.specs.declared.Listing.{Listing}
-use Rattle.planning.proofs.Judged.{refused}
+use Rattle.planning.proofs.Judged.{begun-plain, refused}
 use borrow.Author.Needs.{needs}
 use Rattle.planning.proofs.begin_from.Statement.{statement}
 use Rattle.planning.proofs.begin_from.Tie as tie
@@ -31,17 +31,20 @@ returns-2 c =
 fresh-requires : tie.Need-fresh-requires
 fresh-requires c κs = search needs
 
+from-front-requires : tie.Need-from-front-requires
+from-front-requires c κs = search needs
+
 settle-requires : tie.Need-settle-requires
 settle-requires c κs =
-    let e = c .before in
-    (sym (e .before .cursor-fits .ensures) ∙ not-false _ (e .if2 .left), rw (c .fresh .ensures) refl, rw (c .fresh .ensures) refl)
+    let e = c .before .before in
+    (sym (e .before .cursor-fits .ensures) ∙ not-false _ (e .if2 .left), rw (c .before .fresh .ensures) refl, rw (c .before .fresh .ensures) refl)
 
 returns-3 : tie.Need-returns-3
 returns-3 c =
-    let e = c .before .before in
+    let e = c .before .before .before in
     let k = le-ltb limit _ (e .before .before .if1 .left) in
     let f = sym (e .before .cursor-fits .ensures) ∙ not-false _ (e .if2 .left) in
-    rw (k, f) (rw (c .before .fresh .ensures) at (c .settle .ensures))
+    rw (k, f) (begun-plain (rw (c .before .from-front .ensures, c .before .before .fresh .ensures) at (c .settle .ensures)))
 
 pub begin-from-spec : {M : Type 1} → statement M
 begin-from-spec =
@@ -53,5 +56,6 @@ begin-from-spec =
     refuse-requires-2
     returns-2
     fresh-requires
+    from-front-requires
     settle-requires
     returns-3)

@@ -10,7 +10,7 @@ use Rattle.message.specs.Message.{walkStart}
 use Rattle.rules.specs.Number.{cursorFits}
 use Rattle.listing.specs.declared.Listing.{Listing}
 use Rattle.message.proofs.Started.{started}
-use Rattle.planning.proofs.Judged.{message-begun, refused}
+use Rattle.planning.proofs.Judged.{begun-plain, message-begun, refused}
 use Rattle.planning.proofs.Refused.{refused-long}
 use borrow.Author.Needs.{needs}
 use Rattle.planning.proofs.begin_message.Statement.{statement}
@@ -64,15 +64,18 @@ begins : (f : tie.After-cursor) → let e = f .before .before .before .before in
     (f .cursor .given .0 .0 ≡ walkStart text) × (cursorFits (f .cursor .given .0 .0) text ≡ true)
 begins f = started _ _ (ap walkFoundSays (sym (f .cursor .given .1)) ∙ f .before .before .message-trailers .ensures)
 
+from-front-requires : tie.Need-from-front-requires
+from-front-requires c κs = search needs
+
 settle-requires : tie.Need-settle-requires
-settle-requires c κs = (begins (c .before .before) .1, rw (c .fresh .ensures) refl, rw (c .fresh .ensures) refl)
+settle-requires c κs = (begins (c .before .before .before) .1, rw (c .before .fresh .ensures) refl, rw (c .before .fresh .ensures) refl)
 
 returns-3 : tie.Need-returns-3
 returns-3 c =
-    let f = c .before .before .before in
+    let f = c .before .before .before .before in
     let e = f .before .before .before .before in
     let a = start e .args in
-    message-begun (a .message .now) (a .reading) (a .rooms) (a .room) (e .end-in .ensures) (e .before .if1 .left) (begins f) (rw (c .before .fresh .ensures) at (c .settle .ensures))
+    message-begun (a .message .now) (a .reading) (a .rooms) (a .room) (e .end-in .ensures) (e .before .if1 .left) (begins f) (begun-plain (rw (c .before .from-front .ensures, c .before .before .fresh .ensures) at (c .settle .ensures)))
 
 pub begin-message-spec : {M : Type 1} → statement M
 begin-message-spec =
@@ -88,5 +91,6 @@ begin-message-spec =
     refuse-requires-2
     returns-2
     fresh-requires
+    from-front-requires
     settle-requires
     returns-3)

@@ -1,10 +1,10 @@
 -- `planning::list_step` meets its contract. Assumes nothing.
 use mathlib.Core.Path.{_≡_, sym, _∙_}
-use Prim.Native.Nat.{_+_, _<_, _^_}
+use Prim.Native.Nat.{_+_, _≤_, _<_, _^_}
 use native.Mathlib.Omega.{arith}
 use Rattle.rules.proofs.Number.{fits-is}
 use Rattle.listing.specs.Turns.{readUpTo}
-use Rattle.planning.proofs.Stepping.{end-fits, found-is, left, next-within, not-refused, read-fits, size, start-fits, turn-fits, turn-is}
+use Rattle.planning.proofs.Stepping.{end-fits, first-line, found-is, left, next-within, not-refused, read-fits, size, start-fits, turn-fits, turn-is}
 use borrow.Author.Needs.{needs}
 use Rattle.planning.proofs.list_step.Statement.{statement}
 use Rattle.planning.proofs.list_step.Tie as tie
@@ -48,8 +48,9 @@ turn-requires c κs =
     let h = m .before .move-on .ensures in
     let e = found-is i p o (s .pre) h (c .before .read .given .1) (r .read-trailer .ensures .0) in
     let next = next-within i p o (s .pre) h e (m .move-on2 .ensures) in
+    let one : 1 ≤ c .before .read .given .0 .0 .line = rw e (first-line i p o (s .pre)) in
     let few : p .done .records + 1 < 2 ^ 64 = omega (arith, s .pre .few, fits-is (readUpTo p i) (p .cursor) (s .pre .placed), size i p o (s .pre), s .pre .within) in
-    (turn-fits i p o (s .pre) h e (m .move-on2 .ensures) (omega arith), (few, next))
+    (turn-fits i p o (s .pre) h e (m .move-on2 .ensures) (omega arith), (few, next, one))
 
 enum-told : tie.Need-enum-told
 enum-told c = search needs

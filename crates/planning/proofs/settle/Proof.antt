@@ -20,7 +20,7 @@ returns c =
     let s = t .before .before .before in
     let a = s .args in
     let fit = t .before .is-ample .ensures (t .if1 .taken) in
-    rw (c .stand .ensures, c .before .none .ensures) (all-fit (a .text .now) (a .cursor) (a .outcome) (a .rooms) (a .room) (s .pre .0) (s .pre .1) (s .pre .2) (fit .0) (fit .1))
+    rw (c .stand .ensures, c .before .none .ensures) (all-fit (a .text .now) (a .cursor) (a .outcome) (a .told) (a .rooms) (a .room) (s .pre .0) (s .pre .1) (s .pre .2) (fit .0) (fit .1))
 
 count-requires : tie.Need-count-requires
 count-requires c κs = let s = c .before .before .before in fits-is (s .args .text .now) (s .args .cursor) (s .pre .0) .0
@@ -36,7 +36,7 @@ returns-2 : tie.Need-returns-2
 returns-2 c =
     let n = c .before .before .before in
     let a = start n .args in
-    rw (c .refuse .ensures) (few-rooms (a .text .now) (a .cursor) (a .outcome) (a .rooms) (a .room) (n .count .ensures) (c .before .if2 .taken))
+    rw (c .refuse .ensures) (few-rooms (a .text .now) (a .cursor) (a .outcome) (a .told) (a .rooms) (a .room) (n .count .ensures) (c .before .if2 .taken))
 
 refuse-requires-2 : tie.Need-refuse-requires-2
 refuse-requires-2 c κs = search needs
@@ -46,7 +46,7 @@ returns-3 c =
     let e = c .before .before .before in
     let n = e .before .before in
     let a = start n .args in
-    rw (c .refuse2 .ensures) (no-room (a .text .now) (a .cursor) (a .outcome) (a .rooms) (a .room) (n .count .ensures) (e .if2 .left) (c .before .if3 .taken))
+    rw (c .refuse2 .ensures) (no-room (a .text .now) (a .cursor) (a .outcome) (a .told) (a .rooms) (a .room) (n .count .ensures) (e .if2 .left) (c .before .if3 .taken))
 
 none-requires-2 : tie.Need-none-requires-2
 none-requires-2 c κs = search needs
@@ -60,7 +60,7 @@ returns-4 c =
     let n = e .before .before in
     let s = start n in
     let a = s .args in
-    rw (c .stand2 .ensures, c .before .none2 .ensures) (all-fit (a .text .now) (a .cursor) (a .outcome) (a .rooms) (a .room) (s .pre .0) (s .pre .1) (s .pre .2) (rw (n .count .ensures) at (e .if2 .left)) (rw (n .count .ensures) at (c .before .before .if3 .left)))
+    rw (c .stand2 .ensures, c .before .none2 .ensures) (all-fit (a .text .now) (a .cursor) (a .outcome) (a .told) (a .rooms) (a .room) (s .pre .0) (s .pre .1) (s .pre .2) (rw (n .count .ensures) at (e .if2 .left)) (rw (n .count .ensures) at (c .before .before .if3 .left)))
 
 pub settle-spec : {M : Type 1} → statement M
 settle-spec =

@@ -11,8 +11,8 @@ use Rattle.planning.proofs.stand.Tie as tie
 next-trailer-from-requires : tie.Need-next-trailer-from-requires
 next-trailer-from-requires c κs = search needs
 
-enum-known-ahead : tie.Need-enum-known-ahead
-enum-known-ahead c = search needs
+enum-known-found : tie.Need-enum-known-found
+enum-known-found c = search needs
 
 enum-told : tie.Need-enum-told
 enum-told c = search needs
@@ -31,8 +31,8 @@ returns-2 : tie.Need-returns-2
 returns-2 c =
     let n = c .before .before .before in
     let a = n .before .before .args in
-    found-standing (length (a .text .now)) (a .cursor) (a .done) (a .outcome) (walkFrom (a .text .now) (a .cursor .at)) (sym (n .next-trailer-from .ensures) ∙ c .before .ahead .given .1)
+    found-standing (length (a .text .now)) (a .cursor) (a .done) (a .outcome) (a .told) (walkFrom (a .text .now) (a .cursor .at)) (sym (n .next-trailer-from .ensures) ∙ c .before .found .given .1)
 
 pub stand-spec : {M : Type 1} → statement M
 stand-spec =
-    tie.close (tie.spec next-trailer-from-requires enum-known-ahead enum-told stand-last-requires returns returns-2)
+    tie.close (tie.spec next-trailer-from-requires enum-known-found enum-told stand-last-requires returns returns-2)

@@ -21,11 +21,15 @@ with-counts-requires c κs = search needs
 stand-requires : tie.Need-stand-requires
 stand-requires c κs = search needs
 
+tell-requires : tie.Need-tell-requires
+tell-requires c κs = search needs
+
 returns : tie.Need-returns
 returns c =
-    let w = c .before in
+    let a = c .before in
+    let w = a .before .before in
     let t = w .before .before in
-    rw (c .stand .ensures, w .with-counts .ensures, t .bytes-taken .ensures, t .before .shift .ensures)
+    rw (c .tell .ensures, a .stand .ensures, w .with-counts .ensures, t .bytes-taken .ensures, t .before .shift .ensures)
 
 pub turn-spec : {M : Type 1} → statement M
 turn-spec =
@@ -37,4 +41,5 @@ turn-spec =
     add-bytes
     with-counts-requires
     stand-requires
+    tell-requires
     returns)
