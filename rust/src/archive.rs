@@ -9,7 +9,7 @@
 
 use core::{mem, ops::Range};
 
-use crate::{Cursor, Ending, Field, Listed, Place, Reading, Record, Refusal, Report, Step};
+use crate::{Cursor, Ending, Field, Foot, Listed, Place, Reading, Record, Refusal, Report, Step};
 
 /// Which tokens are meant, by the header's numbers. Those of the filters are asked for where there is a heap.
 #[derive(Clone, Copy)]
@@ -205,6 +205,24 @@ pub fn list_trailers(
     Ok(Listed { records, bytes })
 }
 
+/// All trailers of a body of which the last bytes are lent, or all of it.
+pub fn list_foot(tail: &[u8], whole: bool, table: &mut [Record], out: &mut [u8]) -> Result<Foot, Refusal> {
+    let [_, records, bytes, lines, ..] = listed(table, |table, table_len, result, len| unsafe {
+        sluicepod_list_foot(
+            tail.as_ptr(),
+            tail.len(),
+            u32::from(whole),
+            table,
+            table_len,
+            out.as_mut_ptr(),
+            out.len(),
+            result,
+            len,
+        )
+    })?;
+    Ok(Foot { records, bytes, lines })
+}
+
 /// The next block from `at` on, where the body's trailer block starts at `start`.
 pub fn next_block(body: &[u8], at: usize, start: usize) -> Result<BlockStep, Refusal> {
     let answer = ask(|result, len| unsafe { sluicepod_next_block(body.as_ptr(), body.len(), at, start, result, len) })?;
@@ -379,6 +397,7 @@ fn ask(call: impl FnOnce(*mut usize, usize) -> u32) -> Result<[usize; RESULT_LEN
         5 => Err(Refusal::BadToken),
         6 => Err(Refusal::BadValue),
         7 => Err(Refusal::NothingToStandOn),
+        8 => Err(Refusal::MoreBytes),
         9 => Err(Refusal::Missing(field(result[1]))),
         10 => Err(Refusal::Repeated(field(result[1]))),
         11 => Err(Refusal::BadContent(field(result[1]))),
@@ -506,6 +525,17 @@ extern "C" {
         message: *const u8,
         message_len: usize,
         reading: u32,
+        table: *mut usize,
+        table_len: usize,
+        out: *mut u8,
+        out_len: usize,
+        result: *mut usize,
+        result_len: usize,
+    ) -> u32;
+    fn sluicepod_list_foot(
+        tail: *const u8,
+        tail_len: usize,
+        whole: u32,
         table: *mut usize,
         table_len: usize,
         out: *mut u8,

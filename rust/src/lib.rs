@@ -31,8 +31,9 @@
 //! The crate is `no_std`. The feature `alloc`, which is on by default, adds the calls that make room for what they write:
 //! [`Trailers`] and [`TrailerRef`], [`BodyRef::find`], the summaries, [`add_trailer`], and the writing of bundles. Without it,
 //! what is written goes to a buffer that the caller lends, and a trailer is told by a [`Record`] of places: [`list_trailers`]
-//! and [`list_from`], which give all of them at once, [`next_trailer`], [`find_trailer`], [`summary_into`],
-//! [`message_summary_into`], [`add_trailer_into`]. All other calls need neither.
+//! and [`list_from`], which give all of them at once, [`list_foot`], which reads no more than the foot of a body,
+//! [`next_trailer`], [`find_trailer`], [`summary_into`], [`message_summary_into`], [`add_trailer_into`]. All other calls need
+//! neither.
 //!
 //! ```
 //! use sluicepod::{list_trailers, Reading, Record};
@@ -58,6 +59,7 @@ mod bundle;
 mod closing;
 mod commit;
 mod ending;
+mod foot;
 mod listing;
 mod mailbox;
 mod message;
@@ -76,6 +78,7 @@ pub use bundle::{Bundle, Report};
 pub use closing::{closing_note, may_erase, ClosingNote, Field};
 pub use commit::{CommitObject, HeaderLine};
 pub use ending::Ending;
+pub use foot::{list_foot, Foot};
 pub use listing::{list_from, list_trailers, Listed};
 pub use mailbox::{mailbox, Mailbox};
 pub use message::{message_summary_into, summary_into, MessageRef};

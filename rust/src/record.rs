@@ -53,7 +53,7 @@ pub struct Record {
     pub value: Place,
     /// How the trailer's last line ends: where the value goes on in indented lines, the last of these.
     pub ending: Ending,
-    /// The number of the line where the trailer starts, counted from 1.
+    /// The number of the line where the trailer starts, counted from 1; of a [foot](crate::list_foot), upward from the last.
     pub line: usize,
 }
 
@@ -89,6 +89,28 @@ impl Record {
     /// Where it does not fit: `message` or `buffer` is another one.
     pub fn value_bytes<'a>(&self, message: &'a [u8], buffer: &'a [u8]) -> &'a [u8] {
         self.value.bytes(message, buffer)
+    }
+
+    /// A record of a [foot](crate::list_foot), with its places in the input told from the front of an input of this length: of
+    /// the tail, or of all that it is the end of. The number stays: it counts upward.
+    ///
+    /// # Panics
+    ///
+    /// Where a place is further from the end than the input is long.
+    pub fn from_front(&self, len: usize) -> Record {
+        let told = |part: &Range<usize>| {
+            let at = |distance| len.checked_sub(distance).expect("a place of the input");
+            at(part.start)..at(part.end)
+        };
+        Record {
+            token: told(&self.token),
+            value: match &self.value {
+                Place::Message(part) => Place::Message(told(part)),
+                Place::Buffer(part) => Place::Buffer(part.clone()),
+            },
+            ending: self.ending,
+            line: self.line,
+        }
     }
 
     /// How many bytes of the buffer were written for its value, by a call that gives no other record.

@@ -37,6 +37,8 @@ pub enum Refusal {
     BadValue,
     /// A message without a non-blank line: a new trailer has nothing to stand on.
     NothingToStandOn,
+    /// The last bytes of a body do not settle its trailers: more of it is needed.
+    MoreBytes,
     /// No closing note: no trailer has the field's name.
     Missing(Field),
     /// No closing note: more than one trailer has the field's name.
@@ -74,6 +76,7 @@ impl Refusal {
             Refusal::BadToken => 5,
             Refusal::BadValue => 6,
             Refusal::NothingToStandOn => 7,
+            Refusal::MoreBytes => 8,
             Refusal::Missing(_) => 9,
             Refusal::Repeated(_) => 10,
             Refusal::BadContent(_) => 11,
@@ -104,6 +107,7 @@ impl fmt::Display for Refusal {
             Refusal::BadToken => write!(f, "the token is not letters, digits or hyphens, at least one"),
             Refusal::BadValue => write!(f, "the value has a line feed, or white space at an end"),
             Refusal::NothingToStandOn => write!(f, "the message has no line that is not blank"),
+            Refusal::MoreBytes => write!(f, "more of the body is needed"),
             Refusal::Missing(field) => write!(f, "no closing note: {} is missing", field.name()),
             Refusal::Repeated(field) => write!(f, "no closing note: {} is repeated", field.name()),
             Refusal::BadContent(field) => write!(f, "no closing note: the content of {} is bad", field.name()),

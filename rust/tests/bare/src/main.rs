@@ -6,9 +6,9 @@
 use core::panic::PanicInfo;
 
 use sluicepod::{
-    above_divider, add_trailer_into, closing_note, find_trailer, list_from, list_trailers, mailbox, may_erase,
-    message_end, message_summary_into, next_trailer, summary_into, BodyRef, Bundle, CommitObject, Cursor, Ending,
-    MessageRef, Place, Reading, Record, Refusal,
+    above_divider, add_trailer_into, closing_note, find_trailer, list_foot, list_from, list_trailers, mailbox,
+    may_erase, message_end, message_summary_into, next_trailer, summary_into, BodyRef, Bundle, CommitObject, Cursor,
+    Ending, MessageRef, Place, Reading, Record, Refusal,
 };
 
 #[link(name = "c")]
@@ -27,6 +27,7 @@ pub extern "C" fn main() -> i32 {
     parts();
     steps();
     lists();
+    feet();
     blocks();
     written();
     readings();
@@ -84,6 +85,14 @@ fn lists() {
     let (records, bytes) = (4, 12);
     assert!(list_from(ENTRY, at, &mut table[..3], &mut out) == Err(Refusal::ShortTable { records, bytes }));
     assert!(list_from(ENTRY, at, &mut table, &mut out[..11]) == Err(Refusal::NoRoomForAll { records, bytes }));
+}
+
+fn feet() {
+    let (mut table, mut out) = ([Record::EMPTY; 5], [b'.'; 14]);
+    let foot = list_foot(&ENTRY[25..], false, &mut table, &mut out).unwrap();
+    assert!((foot.records, foot.bytes, foot.lines) == (4, 12, 6) && &out == b"318, 22 late..");
+    assert!(table[0].line == 5 && table[0].from_front(ENTRY.len()).token_bytes(ENTRY) == b"Vehicle");
+    assert!(list_foot(&ENTRY[45..], false, &mut table, &mut out) == Err(Refusal::MoreBytes));
 }
 
 fn blocks() {
