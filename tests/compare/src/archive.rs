@@ -129,6 +129,17 @@ mod declared {
             result: *mut usize,
             result_len: usize,
         ) -> u32;
+        pub fn sluicepod_list_foot(
+            tail: *const u8,
+            tail_len: usize,
+            whole: u32,
+            table: *mut usize,
+            table_len: usize,
+            out: *mut u8,
+            out_len: usize,
+            result: *mut usize,
+            result_len: usize,
+        ) -> u32;
         pub fn sluicepod_next_block(
             body: *const u8,
             body_len: usize,
@@ -322,6 +333,22 @@ pub fn list_trailers(message: &[u8], reading: u32, table: &mut [usize], out: &mu
             message.as_ptr(),
             message.len(),
             reading,
+            table.as_mut_ptr(),
+            table.len(),
+            out.as_mut_ptr(),
+            out.len(),
+            result.as_mut_ptr(),
+            result.len(),
+        )
+    }
+}
+
+pub fn list_foot(tail: &[u8], whole: bool, table: &mut [usize], out: &mut [u8], result: &mut [usize]) -> u32 {
+    unsafe {
+        declared::sluicepod_list_foot(
+            tail.as_ptr(),
+            tail.len(),
+            u32::from(whole),
             table.as_mut_ptr(),
             table.len(),
             out.as_mut_ptr(),

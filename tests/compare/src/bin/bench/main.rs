@@ -7,6 +7,7 @@
 //!                        for the message's LFs
 //!     bench additions    a trailer added to a message alone
 //!     bench lines        the count of LFs beside libc's memchr alone
+//!     bench feet         the foot of a mebibyte given whole, beside that of a kibibyte, alone
 //!     bench lists        all trailers of typical messages alone: by steps, and in one call
 //!
 //! The mailbox call, which the original does not have, is timed by itself, on a mebibyte and on half of it.
@@ -18,6 +19,7 @@ mod additions;
 mod calls;
 mod commits;
 mod divider;
+mod feet;
 #[cfg(feature = "libgit2")]
 mod libgit2;
 mod lines;
@@ -50,6 +52,7 @@ fn main() -> ExitCode {
         ["additions"] => |_: &[Shape]| addition_table(),
         ["lines"] => |_: &[Shape]| lines_table(),
         ["lists"] => |_: &[Shape]| lists_table(),
+        ["feet"] => |_: &[Shape]| feet_table(),
         _ => {
             eprintln!("bench: no such option");
             return ExitCode::FAILURE;
@@ -88,6 +91,7 @@ fn plain(shapes: &[Shape]) {
     for (name, [_, Row { call, race }]) in lists::rows() {
         line(call, &name, &race);
     }
+    line("foot, given whole, beside 1 KiB's", "1 MiB over a foot", &feet::whole());
     for (name, half, whole) in mailbox::rows() {
         println!(
             "{:<34} {name:<34} {:>12} {whole:>12.1} {:>8.2}",
@@ -130,6 +134,7 @@ fn markdown(shapes: &[Shape]) {
     addition_table();
     lines_table();
     lists_table();
+    feet_table();
 }
 
 /// A trailer added: how many times as long as a copy of the message it takes.
@@ -168,6 +173,18 @@ fn lists_table() {
             rows.map(|row| format!("{:.2}", row.race.ratio)).join(" | ")
         );
     }
+}
+
+/// The foot of a mebibyte given whole: how many times as long as that of a kibibyte it takes.
+fn feet_table() {
+    let race = feet::whole();
+    println!("\n| foot | 1 KiB whole, ns | 1 MiB whole, ns | times as long |\n|---|---:|---:|---:|");
+    println!(
+        "| five trailers | {:.0} | {:.0} | {:.2} |",
+        race.original,
+        race.ours,
+        1.0 / race.ratio
+    );
 }
 
 /// Headers of commit objects: how many times as long as a search for their LFs each call takes.
