@@ -1,3 +1,4 @@
 -- Laws of the backward scan.
 pub mod Scanned
 pub mod Upward
+pub mod Ends

@@ -10,10 +10,9 @@ use lib.Dec.{T, eqb→eq}
 use lib.ListN.{length, take, drop, length-append, length-drop, take-append-drop}
 use lib.Seq.{drop-at, drop-length, length-take-le, take-add, take-length, take-take}
 use Rattle.rules.specs.Bytes.{CR, LF, blankByte}
-use Rattle.rules.specs.Lines.{Line, LineStart, ending, lines, text, without}
+use Rattle.rules.specs.Lines.{Line, LineStart, lines, text, without}
 use Rattle.rules.specs.Lists.{all, join}
-use Rattle.rules.specs.Paragraph.{lastEnding, solid, Body, put, parse}
-use Rattle.rules.proofs.LastEndings.{last-blank, last-solid}
+use Rattle.rules.specs.Paragraph.{solid, Body, put, parse}
 use Rattle.rules.proofs.Lines.{join-lines, lines-from}
 use Rattle.rules.proofs.Lists.{cut-unique}
 use Rattle.find.specs.Find.{behindLF}
@@ -61,13 +60,6 @@ module _ (body : List ℕ) (start end : ℕ) (s : start ≡ lineStart body end) 
     last-part =
         rw s (last-line body end z h ∙ ap (λ (l : Line). lines (take (lineStart body end) body) ++ l ∷ [])
         (part-is body (lineStart body end) end (start-le body (lineStart body end) end refl) h))
-
-    -- the last non-blank line is this one, or it is above
-    pub ending-here : all blankByte (part body start end) ≡ false → lastEnding (lines (take end body)) ≡ some (ending (part body start end))
-    ending-here b = ap lastEnding last-part ∙ last-solid (lines (take start body)) (part body start end) (rw (blank-all (part body start end), b))
-
-    pub ending-above : all blankByte (part body start end) ≡ true → lastEnding (lines (take end body)) ≡ lastEnding (lines (take start body))
-    ending-above b = ap lastEnding last-part ∙ last-blank (lines (take start body)) (part body start end) (rw (blank-all (part body start end), b))
 
     line-size : end ≡ length (join (lines (take start body))) + length (part body start end)
     line-size = rw join-lines (omega (arith, sizes .0, sizes .1, start-le body start end s))

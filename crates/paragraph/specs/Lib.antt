@@ -1,2 +1,3 @@
 -- The words that the contracts of this crate add to those of rules.
 pub mod Scan
+pub mod Solid

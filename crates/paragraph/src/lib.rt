@@ -5,10 +5,13 @@ ghost use lib.ListN.{length, take};
 ghost use Rattle.rules.specs.Lines.{lines};
 ghost use Rattle.rules.specs.Paragraph.{accepts, blockStart, endingBelow, parse, recognised};
 ghost use Rattle.paragraph.specs.Scan.{endAbove, lastParagraph, scanned};
+ghost use Rattle.paragraph.specs.Solid.{SolidLen};
 use rules::Ending;
 use text::fixed::starts_with;
+use text::line::is_ascii_whitespace;
 use text::line::is_blank_line;
 use text::line::is_indented;
+use text::line::line_len;
 use text::line::line_start;
 use text::line::trim_line_ending;
 use trailer::line::TrailerLine;
@@ -141,18 +144,30 @@ pub fn trailer_block_start(body: &[u8]) -> usize
     end_above(body, paragraph.start)
 }
 
-// How the last non-blank line of `body` ended; with none of the endings where there is no such line.
+// How long `body` is without the blank bytes at its end.
+fn solid_len(body: &[u8]) -> usize
+    ensures { λ r. ⌜ SolidLen (now (body .entry)) r ⌝ }
+{
+    let mut len: usize = body.len();
+    while len > 0 {
+        if !is_ascii_whitespace(body[len - 1]) {
+            return len;
+        }
+        len -= 1;
+    }
+    len
+}
+
+// How the last non-blank line of `body` ended; with none of the endings where there is no such line. It holds the last byte that is
+// not blank, and where it starts does not matter.
 pub fn last_ending(body: &[u8]) -> Ending
     ensures { λ r. ⌜ r ≡ endingBelow (now (body .entry)) ⌝ }
 {
-    let mut end: usize = body.len();
-    while end > 0 {
-        let start = line_start(body, end);
-        let line = &body[start..end];
-        if !is_blank_line(line) {
-            return trim_line_ending(line).ending;
-        }
-        end = start;
+    let len = solid_len(body);
+    if len == 0 {
+        return Ending::None;
     }
-    Ending::None
+    let start = len - 1;
+    let end = start + line_len(&body[start..]);
+    trim_line_ending(&body[start..end]).ending
 }

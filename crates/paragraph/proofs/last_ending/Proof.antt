@@ -1,91 +1,89 @@
--- `paragraph::last_ending` meets its contract. Invariant: the last non-blank line of the body is that of its lines before `end`.
--- Assumes nothing.
-use mathlib.Core.Path.{_≡_, sym, ap, _∙_}
-use Prim.Native.Nat.{_≤_}
+-- `paragraph::last_ending` meets its contract. Assumes nothing.
+use mathlib.Core.Path.{_≡_, sym, _∙_}
+use Prim.Native.Nat.{_+_, _-_, _≤_, _<_}
 use native.Mathlib.Omega.{arith}
+use lib.ListN.{length}
+use Rattle.text.proofs.ByLines.{line-ahead}
+use Rattle.paragraph.proofs.Ends.{ends-nowhere, ends-there}
 use borrow.Author.Needs.{needs}
-use borrow.Author.Tests.{not-true, not-false}
-use lib.ListN.{length, take}
-use lib.Seq.{take-length}
-use Rattle.rules.specs.Lines.{lines}
-use Rattle.rules.specs.Paragraph.{endingBelow, lastEnding, orNone}
-use Rattle.paragraph.proofs.Upward.{ending-above, ending-here, start-before, start-le}
 use Rattle.paragraph.proofs.last_ending.Statement.{statement}
 use Rattle.paragraph.proofs.last_ending.Tie as tie
 
-abbrev Inv-loop : tie.InvT-loop
-Inv-loop body end₀ end = (end ≤ length body) × (lastEnding (lines body) ≡ lastEnding (lines (take end body)))
+solid-len-requires : tie.Need-solid-len-requires
+solid-len-requires c κs = search needs
 
-abbrev μ-loop : tie.MeasureT-loop
-μ-loop body end₀ end = end
+returns : tie.Need-returns
+returns c =
+    let n = c .before in
+    let a = n .before .before .args in
+    let none : n .solid-len .result ≡ 0 = search needs in
+    sym (ends-nowhere (a .body .now) (rw none at (n .solid-len .ensures)))
 
-loop-holds : tie.Need-loop-holds Inv-loop μ-loop
-loop-holds c = (omega arith, rw (take-length (c .before .args .body .now)))
+sub-start : tie.Need-sub-start
+sub-start c = search needs
 
-line-start-requires : tie.Need-line-start-requires Inv-loop μ-loop
-line-start-requires c κs = c .before .loop .inv .0
+sub-line-len : tie.Need-sub-line-len
+sub-line-len c = search needs
 
-sub-line : tie.Need-sub-line Inv-loop μ-loop
-sub-line c = start-le _ _ _ (c .line-start .ensures)
+part-line-len-start : tie.Need-part-line-len-start
+part-line-len-start c = search needs
 
-part-line-start : tie.Need-part-line-start Inv-loop μ-loop
-part-line-start c =
-    let k = start-le _ _ _ (c .line-start .ensures) in
-    let n = c .before .before .loop .inv .0 in
-    search needs
+part-line-len-end : tie.Need-part-line-len-end
+part-line-len-end c = search needs
 
-part-line-end : tie.Need-part-line-end Inv-loop μ-loop
-part-line-end c =
-    let k = start-le _ _ _ (c .line-start .ensures) in
-    let n = c .before .before .loop .inv .0 in
-    search needs
+line-len-requires : tie.Need-line-len-requires
+line-len-requires c κs = search needs
 
-is-blank-line-requires : tie.Need-is-blank-line-requires Inv-loop μ-loop
-is-blank-line-requires c κs = search needs
+-- from where the length is found
+abbrev ended : tie.After-line-len → tie.After-solid-len
+ended l = let tested = l .before .before in tested .before
 
-trim-line-ending-requires : tie.Need-trim-line-ending-requires Inv-loop μ-loop
+some-byte : (l : tie.After-line-len) → 0 < ended l .solid-len .result
+some-byte l = let tested = l .before .before in omega (arith, tested .if1 .left)
+
+-- the line that holds the last byte is ahead
+ahead : (l : tie.After-line-len) → let n = ended l in
+    (0 < l .line-len .result) × (n .solid-len .result - 1 + l .line-len .result ≤ length (n .before .before .args .body .now))
+ahead l =
+    let n = ended l in
+    line-ahead (n .before .before .args .body .now) (n .solid-len .result - 1) (l .line-len .result) (omega (arith, some-byte l, n .solid-len .ensures .0)) (l .line-len .ensures)
+
+add-end : tie.Need-add-end
+add-end c = let n = ended c in omega (arith, ahead c, n .solid-len .ensures .0)
+
+sub-trim-line-ending : tie.Need-sub-trim-line-ending
+sub-trim-line-ending c = search needs
+
+part-trim-line-ending-start : tie.Need-part-trim-line-ending-start
+part-trim-line-ending-start c = search needs
+
+part-trim-line-ending-end : tie.Need-part-trim-line-ending-end
+part-trim-line-ending-end c = let n = ended c in omega (arith, ahead c, n .solid-len .ensures .0)
+
+trim-line-ending-requires : tie.Need-trim-line-ending-requires
 trim-line-ending-requires c κs = search needs
 
-returns : tie.Need-returns Inv-loop μ-loop
-unfolding endingBelow
-returns c =
-    let i = c .before in let b = i .before in let s = b .before .before in let l = s .before .before in
-    let solid = sym (sym (not-true _ (i .if1 .taken)) ∙ b .is-blank-line .ensures) in
-    let last = l .loop .inv .1 ∙ ending-here _ _ _ (s .line-start .ensures) (l .loop .inv .0) (search needs) solid in
-    c .trim-line-ending .ensures .1 ∙ sym (ap orNone last)
-
-loop-less : tie.Need-loop-less Inv-loop μ-loop
-loop-less c = let s = c .before .before .before in start-before _ _ _ (s .line-start .ensures) (search needs)
-
-loop-again : tie.Need-loop-again Inv-loop μ-loop
-loop-again c =
-    let b = c .before in let s = b .before .before in let l = s .before .before in
-    let blank = sym (sym (not-false _ (c .if1 .left)) ∙ b .is-blank-line .ensures) in (
-      omega (arith, start-le _ _ _ (s .line-start .ensures), l .loop .inv .0),
-      l .loop .inv .1 ∙ ending-above _ _ _ (s .line-start .ensures) (l .loop .inv .0) (search needs) blank,
-    )
-
-returns-2 : tie.Need-returns-2 Inv-loop μ-loop
-unfolding endingBelow
+returns-2 : tie.Need-returns-2
 returns-2 c =
-    let l = c .before in
-    let top : l .loop .end ≡ 0 = search needs in
-    sym (ap orNone (rw top at (l .loop .inv .1)))
+    let l = c .before .before in
+    let n = ended l in
+    let a = n .before .before .args in
+    c .trim-line-ending .ensures .1 ∙ sym (ends-there (a .body .now) (n .solid-len .result) (l .line-len .result) (n .solid-len .ensures) (some-byte l) (l .line-len .ensures))
 
 pub last-ending-spec : {M : Type 1} → statement M
 last-ending-spec =
     tie.close
     (tie.spec
-    Inv-loop
-    μ-loop
-    loop-holds
-    line-start-requires
-    sub-line
-    part-line-start
-    part-line-end
-    is-blank-line-requires
-    trim-line-ending-requires
+    solid-len-requires
     returns
-    loop-less
-    loop-again
+    sub-start
+    sub-line-len
+    part-line-len-start
+    part-line-len-end
+    line-len-requires
+    add-end
+    sub-trim-line-ending
+    part-trim-line-ending-start
+    part-trim-line-ending-end
+    trim-line-ending-requires
     returns-2)
