@@ -1,5 +1,5 @@
 -- An answer of a listing is told by its number and its values, so a statement `listingSays r ≡ ..` decides it. Assumes nothing.
-use mathlib.Core.List.{List, [], _∷_}
+use mathlib.Core.List.{[], _∷_}
 use mathlib.Core.Path.{_≡_, refl}
 use Prim.Native.Nat.{ℕ, zero, suc}
 use Rattle.rules.proofs.Answers.{Decides, decides}

@@ -15,12 +15,11 @@ use Rattle.rules.specs.Answers.{Said, afterwards, limit, number, trailerStepSay
 use Rattle.rules.specs.Lists.{if_then_else_}
 use Rattle.rules.specs.Number.{cursorFits, movedOn}
 use Rattle.rules.specs.Record.{part, recordOf, valueOf, writtenOf}
-use Rattle.rules.specs.Trailer.{Trailer, endOf, isOf, only, placeOf, rawValue, rawValueAt, those, unfolded, valueIsWritten, walkFrom}
+use Rattle.rules.specs.Trailer.{Trailer, endOf, only, placeOf, rawValue, unfolded, valueIsWritten, walkFrom}
 use Rattle.rules.specs.White.{trim, trimAt}
 use Rattle.rules.specs.declared.Cursor.{Cursor}
 use Rattle.rules.specs.declared.Kind.{Kind}
 use Rattle.rules.specs.declared.TrailerRef.{TrailerRef}
-use Rattle.rules.specs.declared.TrailerStep.{TrailerStep}
 use Rattle.rules.specs.declared.Value.{Value}
 use Rattle.body.specs.Body.{firstStep, firstWrites, stepAnswer, stepBuffer}
 use Rattle.listing.specs.Answers.{listingSays}

@@ -1,4 +1,4 @@
--- Document 02, K1: the listing of all trailers, its refusals, and what the table and the buffer hold afterwards.
+-- Document 02, K1: the listing of all trailers, its refusals, and how it is made.
 pub mod Listing
 pub mod Answers
 pub mod Turns

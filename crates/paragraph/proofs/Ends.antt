@@ -1,6 +1,6 @@
 -- The last non-blank line holds the last byte that is not blank, and where the line starts does not change how it ended. Assumes nothing.
 use mathlib.Core.Bool.{Bool, true, false, false≢true, not, _&&_}
-use mathlib.Core.List.{List, [], _∷_, _++_}
+use mathlib.Core.List.{List, [], _∷_}
 use mathlib.Core.Option.{Option, none, some}
 use mathlib.Core.Path.{_≡_, refl, sym, ap, _∙_}
 use Prim.Native.Nat.{ℕ, zero, suc, _+_, _-_, _≤_, _<_}
@@ -8,8 +8,8 @@ use native.Mathlib.Omega.{arith}
 use lib.Dec.{eqb, eqb→eq}
 use lib.ListN.{length, getD, take, drop}
 use lib.Seq.{drop-cons, drop-drop}
-use Rattle.rules.specs.Bytes.{LF, CR, blankByte}
-use Rattle.rules.specs.Lines.{Line, before, ending, endsWith, lines, without}
+use Rattle.rules.specs.Bytes.{LF, blankByte}
+use Rattle.rules.specs.Lines.{Line, before, ending, lines}
 use Rattle.rules.specs.Lists.{if_then_else_, all}
 use Rattle.rules.specs.Paragraph.{endingBelow, endingUnder, lastEnding, orNone, solid}
 use Rattle.rules.specs.declared.Ending.{Ending}

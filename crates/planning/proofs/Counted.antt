@@ -1,7 +1,7 @@
 -- Counting, one trailer at a time, and what a record of the walk asks for in the buffer. Assumes nothing.
 use mathlib.Core.Bool.{Bool, true, false}
-use mathlib.Core.List.{List, [], _∷_, _++_}
-use mathlib.Core.Path.{_≡_, refl, sym, ap, _∙_}
+use mathlib.Core.List.{List, [], _∷_}
+use mathlib.Core.Path.{_≡_, refl, ap, _∙_}
 use Prim.Native.Nat.{ℕ, _+_, _-_, _≤_, _<_}
 use native.Mathlib.Omega.{arith}
 use lib.Dec.{eqb}
@@ -25,7 +25,7 @@ use Rattle.trailer.proofs.Steps.{First, first-is}
 use Rattle.trailer.specs.Walk.{nextOf}
 use Rattle.trailer.specs.declared.walk.NextTrailer.{NextTrailer}
 use Rattle.listing.proofs.Turn.{all-kept}
-use Rattle.listing.specs.Listing.{taken, valuesOf}
+use Rattle.listing.specs.Listing.{valuesOf}
 use Rattle.listing.specs.Turns.{standing}
 use Rattle.listing.specs.declared.Counts.{Counts}
 use Rattle.listing.specs.declared.Listing.{Listing}

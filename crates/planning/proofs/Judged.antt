@@ -5,7 +5,7 @@ use mathlib.Core.Path.{_≡_, refl, sym, ap, _∙_}
 use Prim.Native.Nat.{ℕ, _≤_, _<_}
 use native.Mathlib.Omega.{arith}
 use borrow.Author.Tests.{le-ltb, lt-ltb}
-use lib.Dec.{eqb, ltb}
+use lib.Dec.{eqb}
 use lib.ListN.{length, take, length-map}
 use lib.Seq.{take-length}
 use Rattle.divider.proofs.Readings.{handed-on, read-short, read-taken, read-within}
@@ -16,7 +16,7 @@ use Rattle.foot.proofs.Tells.{foot-records, foot-values}
 use Rattle.foot.specs.Foot.{foot, looked}
 use Rattle.foot.specs.Found.{footCursor, footStart, linesFrom}
 use Rattle.message.specs.Message.{walkStart}
-use Rattle.rules.specs.Answers.{Said, limit, number, overLimit}
+use Rattle.rules.specs.Answers.{Said, limit, number}
 use Rattle.rules.specs.Number.{cursorFits}
 use Rattle.rules.specs.Trailer.{walkFrom}
 use Rattle.rules.specs.declared.Cursor.{Cursor}

@@ -1,4 +1,4 @@
--- Laws of counting, of the rows of a plan, and of a turn.
+-- Laws of counting, of where a listing begins, and of a turn.
 pub mod Counted
 pub mod Judged
 pub mod Stepping

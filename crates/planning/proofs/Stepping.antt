@@ -1,5 +1,5 @@
 -- The trailer ahead, read into the part of the buffer that is still free, as a turn of the listing. Assumes nothing.
-use mathlib.Core.List.{List, [], _∷_, _++_}
+use mathlib.Core.List.{List, _++_}
 use mathlib.Core.Path.{_≡_, refl, sym, ap, _∙_}
 use Prim.Native.Nat.{ℕ, _+_, _-_, _≤_, _<_, _^_}
 use native.Mathlib.Omega.{arith}
@@ -15,7 +15,7 @@ use Rattle.rules.proofs.Record.{places-fit, raw-is}
 use Rattle.rules.proofs.Walk.{Stands, those-place, walk-stands, walk-step}
 use Rattle.rules.specs.Number.{movedOn}
 use Rattle.rules.specs.Record.{fitted, placesOf, recordOf, writtenOf}
-use Rattle.rules.specs.Trailer.{Trailer, endOf, isOf, placeOf, rawValue, rawValueAt, walkFrom}
+use Rattle.rules.specs.Trailer.{Trailer, endOf, isOf, placeOf, rawValue, rawValueAt}
 use Rattle.rules.specs.declared.Cursor.{Cursor}
 use Rattle.rules.specs.declared.Kind.{Kind}
 use Rattle.rules.specs.declared.Places.{Places}

@@ -1,3 +1,3 @@
--- What the parts of a listing answer.
+-- What is listed and what is left behind, and what the parts of a listing answer.
 pub mod Planning
 pub mod Scopes

@@ -1,5 +1,4 @@
 -- What is listed of an input: the answer, and what the table and the buffer hold afterwards.
-use mathlib.Core.Bool.{Bool}
 use mathlib.Core.List.{List}
 use mathlib.Core.Path.{_≡_}
 use Prim.Native.Nat.{ℕ}
@@ -7,7 +6,6 @@ use lib.ListN.{length}
 use Rattle.rules.specs.Answers.{Said, afterwards}
 use Rattle.rules.specs.declared.TrailerRef.{TrailerRef}
 use Rattle.divider.specs.Readings.{inReading, read}
-use Rattle.divider.specs.declared.Reading.{Reading}
 use Rattle.foot.specs.Foot.{footAnswer, footRecords, footValues}
 use Rattle.message.specs.Message.{walkStart}
 use Rattle.listing.specs.Answers.{listAnswer, listingSays}
