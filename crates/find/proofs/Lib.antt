@@ -1,2 +1,3 @@
--- Laws of runs without an LF.
+-- Laws of runs without an LF, and of LFs in a word.
 pub mod Runs
+pub mod Words

@@ -3,7 +3,7 @@ use mathlib.Core.Bool.{Bool, true, false, false≢true, or-assoc, or-false, _||_
 use mathlib.Core.List.{List, [], _∷_}
 use mathlib.Core.Path.{_≡_, refl, sym, ap, _∙_}
 use Prim.Native.Nat.{ℕ, zero, suc, _+_, _-_, _≤_, _<_}
-use native.Mathlib.Numerals.{add-one}
+use native.Mathlib.Numerals.{add-one, sub-one}
 use native.Mathlib.Omega.{arith}
 use borrow.Author.Tests.{eq-eqb, ne-eqb}
 use lib.ListN.{length, take, drop, getD, drop-of-length-le, length-drop}
@@ -15,7 +15,7 @@ use Rattle.rules.specs.Lists.{if_then_else_, any}
 use Rattle.rules.specs.Number.{lineFeeds}
 use Rattle.find.specs.Find.{behindLF, isLF, untilLF}
 
-or-none : (a b : Bool) → (a || b) ≡ false → (a ≡ false) × (b ≡ false)
+pub or-none : (a b : Bool) → (a || b) ≡ false → (a ≡ false) × (b ≡ false)
 or-none true b e = absurd (false≢true (sym e))
 or-none false b e = (refl, e)
 
@@ -54,6 +54,22 @@ before-run (suc k) s i h e =
     let size : i + suc k ≡ suc i + k = omega arith in
     rw size (rw (n .0) at later)
 
+-- one byte more of a search backward: an LF, another byte, none
+pub met : (s : List ℕ) (i : ℕ) → 0 < i → getD s (i - 1) 0 ≡ LF → behindLF s i ≡ i
+unfolding behindLF
+met s zero h e = absurd (omega arith)
+met s (suc k) h e = rw (eq-eqb (getD s k 0) LF (rw sub-one at e))
+
+pub passed : (s : List ℕ) (i : ℕ) → 0 < i → (getD s (i - 1) 0 ≡ LF → ⊥) → behindLF s i ≡ behindLF s (i - 1)
+unfolding behindLF
+passed s zero h n = absurd (omega arith)
+passed s (suc k) h n = rw (sub-one, ne-eqb (getD s k 0) LF (λ e. n (rw sub-one e)))
+
+pub none : (s : List ℕ) (i : ℕ) → i ≤ 0 → behindLF s i ≡ 0
+unfolding behindLF
+none s zero h = refl
+none s (suc k) h = absurd (omega arith)
+
 -- ---- the end of a search forward
 
 pub until-fits : (s : List ℕ) (i : ℕ) → i ≤ length s → i + untilLF (drop i s) ≤ length s
@@ -79,56 +95,6 @@ in-run k s i e = among (drop i s) k e
         by : (b : Bool) → isLF x ≡ b → (any isLF (take k t) ≡ true → untilLF (take k t) ≡ untilLF t) → untilLF (x ∷ take k t) ≡ untilLF (x ∷ t)
         by true q r = rw q
         by false q r = rw q (ap suc (r (rw q at e)))
-
--- no LF stands in the last bytes
-pub to-end : (s : List ℕ) (at i : ℕ) → at ≤ i → i ≤ length s → any isLF (drop at s) ≡ false → i + untilLF (drop i s) ≡ length s
-to-end s at i h l e =
-    let d = i - at in let there : at + d ≡ i = omega arith in
-    let behind : drop d (drop at s) ≡ drop i s = drop-drop d at s ∙ ap (λ (n : ℕ). drop n s) there in
-    let n = none (drop i s) (rw behind at (dropped d (drop at s) e)) in
-    omega (arith, n, length-drop i s)
-  where
-    dropped : (d : ℕ) (t : List ℕ) → any isLF t ≡ false → any isLF (drop d t) ≡ false
-    dropped zero t e = e
-    dropped (suc d) [] e = e
-    dropped (suc d) (x ∷ t) e = dropped d t (or-none (isLF x) (any isLF t) e .1)
-
-    none : (t : List ℕ) → any isLF t ≡ false → untilLF t ≡ length t
-    none [] e = refl
-    none (x ∷ t) e = let n = or-none (isLF x) (any isLF t) e in rw (n .0) (ap suc (none t (n .1)))
-
--- ---- an LF anywhere
-
-any-dropped : (i : ℕ) (s : List ℕ) → any isLF (drop i s) ≡ true → any isLF s ≡ true
-any-dropped zero s e = e
-any-dropped (suc i) [] e = e
-any-dropped (suc i) (x ∷ s) e = rw (any-dropped i s e) (either (isLF x))
-  where
-    either : (b : Bool) → (b || true) ≡ true
-    either true = refl
-    either false = refl
-
-any-taken : (k : ℕ) (s : List ℕ) → any isLF (take k s) ≡ true → any isLF s ≡ true
-any-taken zero s e = absurd (false≢true e)
-any-taken (suc k) [] e = e
-any-taken (suc k) (x ∷ s) e = by (isLF x) refl (any-taken k s)
-  where
-    by : (b : Bool) → isLF x ≡ b → (any isLF (take k s) ≡ true → any isLF s ≡ true) → (isLF x || any isLF s) ≡ true
-    by true q r = rw q
-    by false q r = rw q (r (rw q at e))
-
-pub any-within : (k i : ℕ) (s : List ℕ) → any isLF (take k (drop i s)) ≡ true → any isLF s ≡ true
-any-within k i s e = any-dropped i s (any-taken k (drop i s) e)
-
--- none stands before the first
-pub any-behind : (s : List ℕ) (k : ℕ) → k ≤ untilLF s → any isLF (drop k s) ≡ any isLF s
-any-behind s zero h = refl
-any-behind [] (suc k) h = refl
-any-behind (x ∷ s) (suc k) h = by (isLF x) refl (any-behind s k)
-  where
-    by : (b : Bool) → isLF x ≡ b → (k ≤ untilLF s → any isLF (drop k s) ≡ any isLF s) → any isLF (drop k s) ≡ (isLF x || any isLF s)
-    by true q r = absurd (let z : suc k ≤ 0 = rw q at h in omega arith)
-    by false q r = rw q (r (let z : suc k ≤ suc (untilLF s) = rw q at h in omega arith))
 
 -- ---- counted
 

@@ -10,6 +10,9 @@ use Rattle.rules.specs.Lists.{if_then_else_, run}
 abbrev pub isLF : ℕ → Bool
 isLF c = eqb c LF
 
+abbrev pub other : ℕ → Bool
+other c = not (isLF c)
+
 -- how many bytes stand before the first LF; all of them where there is none
 abbrev pub untilLF : List ℕ → ℕ
 untilLF s = length (run (λ c. not (isLF c)) s)

@@ -1,15 +1,22 @@
 // A trailer line, and the trailer that begins at a line's start.
+ghost use mathlib.Core.List.{List};
 ghost use mathlib.Core.Path.{_≡_};
-ghost use Prim.Native.Nat.{_+_, _≤_};
+ghost use Prim.Native.Nat.{ℕ, _+_, _≤_};
 ghost use lib.ListN.{length, drop};
 ghost use Rattle.rules.specs.Bytes.{gapByte, tokenByte, within};
 ghost use Rattle.rules.specs.Lines.{folds, lines};
 ghost use Rattle.rules.specs.Lists.{join, run};
 ghost use Rattle.rules.specs.Trailer.{tokenIn};
+ghost use Rattle.word.specs.Word.{Bytes, each, flag, packed};
 ghost use Rattle.trailer.specs.Line.{atStart, parsed};
 use text::line::is_blank_line;
 use text::line::is_indented;
 use text::line::line_len;
+use word::before_flag;
+use word::word;
+
+// How many bytes a word has.
+const WORD: usize = 8;
 
 // Of `parse_trailer_line`: where the token ends, and where the value starts, right behind the colon.
 pub enum TrailerLine {
@@ -60,18 +67,54 @@ fn is_gap_byte(byte: u8) -> bool
     byte == b' ' || byte == b'\t'
 }
 
-// Where the token at the front ends.
-pub fn token_end(line: &[u8]) -> usize
-    ensures { λ r. ⌜ r ≡ length (tokenIn (now (line .entry))) ⌝ }
+// How many bytes at the front stand in a token, byte by byte.
+fn short_token_len(part: &[u8]) -> usize
+    ensures { λ r. ⌜ r ≡ length (tokenIn (now (part .entry))) ⌝ }
 {
     let mut i = 0;
-    while i < line.len() {
-        if !is_token_byte(line[i]) {
+    while i < part.len() {
+        if !is_token_byte(part[i]) {
             return i;
         }
         i += 1;
     }
     i
+}
+
+// The flags of a word's bytes that stand in no token. Each byte, without its highest bit, carries into it in two sums: in one from the first byte
+// of a range on, in the other from the one behind its last. In the range only one of them carries.
+fn token_flags(word: u64) -> u64
+    ensures { λ r. ⌜ ((s : List ℕ) → length s ≡ 8 → Bytes s → word ≡ packed s → r ≡ each (flag tokenByte) s) ⌝ }
+{
+    let low = word & 0x7f7f_7f7f_7f7f_7f7f;
+    let small = low | 0x2020_2020_2020_2020;
+    let letter = (small + 0x1f1f_1f1f_1f1f_1f1f) ^ (small + 0x0505_0505_0505_0505);
+    let digit = (low + 0x5050_5050_5050_5050) ^ (low + 0x4646_4646_4646_4646);
+    let no_hyphen = (low ^ 0x2d2d_2d2d_2d2d_2d2d) + 0x7f7f_7f7f_7f7f_7f7f;
+    ((((letter | digit) ^ 0x8080_8080_8080_8080) & no_hyphen) | word) & 0x8080_8080_8080_8080
+}
+
+// How many of a word's bytes stand in a token at the front.
+fn token_len_of_word(run: &[u8]) -> usize
+    requires { ⌜ length (now run) ≡ 8 ⌝ }
+    ensures { λ r. ⌜ r ≡ length (tokenIn (now (run .entry))) ⌝ }
+{
+    before_flag(token_flags(word(run)))
+}
+
+// Where the token at the front ends.
+pub fn token_end(line: &[u8]) -> usize
+    ensures { λ r. ⌜ r ≡ length (tokenIn (now (line .entry))) ⌝ }
+{
+    let mut i = 0;
+    while line.len() - i >= WORD {
+        let passed = token_len_of_word(&line[i..i + WORD]);
+        if passed < WORD {
+            return i + passed;
+        }
+        i += WORD;
+    }
+    i + short_token_len(&line[i..])
 }
 
 // Where the spaces and tabs from `at` on end: a trailer line has its colon there.

@@ -33,7 +33,11 @@ has-lf-requires : tie.Need-has-lf-requires Inv-loop μ-loop
 has-lf-requires c κs = search needs
 
 returns : tie.Need-returns Inv-loop μ-loop
-returns c = let r = c .before in r .before .before .before .loop .inv
+returns c =
+    let r = c .before in let l = r .before .before .before in
+    let i = l .loop .i in
+    let size : i - (i - 16) ≡ 16 = omega arith in
+    (λ h. rw size at (sym (r .has-lf .ensures) ∙ c .if1 .taken), l .loop .inv)
 
 loop-less : tie.Need-loop-less Inv-loop μ-loop
 loop-less c = search needs
@@ -48,7 +52,7 @@ loop-again c =
     (omega arith, (rw end at (before-run 16 s (i - 16) (omega arith) none)) ∙ l .loop .inv .1)
 
 returns-2 : tie.Need-returns-2 Inv-loop μ-loop
-returns-2 c = c .before .loop .inv
+returns-2 c = (λ h. absurd (omega (arith, c .loop-test .left)), c .before .loop .inv)
 
 pub before-runs-spec : {M : Type 1} → statement M
 before-runs-spec =

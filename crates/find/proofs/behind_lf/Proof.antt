@@ -1,81 +1,56 @@
--- `find::behind_lf` meets its contract. The invariant: a search back from `i` finds what one from `end` finds. Assumes nothing.
-use mathlib.Core.List.{List}
-use mathlib.Core.Path.{_≡_, refl}
-use Prim.Native.Nat.{ℕ, zero, suc, _-_, _≤_, _<_}
-use native.Mathlib.Numerals.{sub-one}
+-- `find::behind_lf` meets its contract. Assumes nothing.
+use mathlib.Core.Path.{_≡_, sym, _∙_}
+use Prim.Native.Nat.{_-_}
 use native.Mathlib.Omega.{arith}
+use Rattle.find.proofs.Runs.{met, passed}
 use borrow.Author.Needs.{needs}
-use borrow.Author.Tests.{eq-eqb, ne-eqb}
-use lib.ListN.{getD}
-use Rattle.rules.specs.Bytes.{LF}
-use Rattle.find.specs.Find.{behindLF}
 use Rattle.find.proofs.behind_lf.Statement.{statement}
 use Rattle.find.proofs.behind_lf.Tie as tie
 
-found : (s : List ℕ) (i : ℕ) → 0 < i → getD s (i - 1) 0 ≡ LF → behindLF s i ≡ i
-unfolding behindLF
-found s zero h e = absurd (omega arith)
-found s (suc k) h e = rw (eq-eqb (getD s k 0) LF (rw sub-one at e))
+sub-if2 : tie.Need-sub-if2
+sub-if2 c = search needs
 
-passed : (s : List ℕ) (i : ℕ) → 0 < i → (getD s (i - 1) 0 ≡ LF → ⊥) → behindLF s i ≡ behindLF s (i - 1)
-unfolding behindLF
-passed s zero h n = absurd (omega arith)
-passed s (suc k) h n = rw (sub-one, ne-eqb (getD s k 0) LF (λ e. n (rw sub-one e)))
+shared-slice-read-if2 : tie.Need-shared-slice-read-if2
+shared-slice-read-if2 c = search needs
 
-none : (s : List ℕ) (i : ℕ) → i ≤ 0 → behindLF s i ≡ 0
-unfolding behindLF
-none s zero h = refl
-none s (suc k) h = absurd (omega arith)
-
-abbrev Inv-loop : tie.InvT-loop
-Inv-loop s end i₀ i = (i ≤ end) × (behindLF s i ≡ behindLF s end)
-
-abbrev μ-loop : tie.MeasureT-loop
-μ-loop s end i₀ i = i
-
-before-runs-requires : tie.Need-before-runs-requires Inv-loop μ-loop
-before-runs-requires c κs = search needs
-
-loop-holds : tie.Need-loop-holds Inv-loop μ-loop
-loop-holds c = search needs
-
-sub-if1 : tie.Need-sub-if1 Inv-loop μ-loop
-sub-if1 c = search needs
-
-shared-slice-read-if1 : tie.Need-shared-slice-read-if1 Inv-loop μ-loop
-shared-slice-read-if1 c = search needs
-
-returns : tie.Need-returns Inv-loop μ-loop
+returns : tie.Need-returns
 returns c =
-    let l = c .before .before .before in
-    omega (arith, found (l .before .before .before .args .s .now) (l .loop .i) (search needs) (c .if1 .taken))
+    let s = c .before .before .before .before .args .s .now in let end = c .before .before .before .before .args .end in
+    sym (met s end (search needs) (c .if2 .taken))
 
-sub-i : tie.Need-sub-i Inv-loop μ-loop
-sub-i c = search needs
+sub-if3 : tie.Need-sub-if3
+sub-if3 c = search needs
 
-loop-less : tie.Need-loop-less Inv-loop μ-loop
-loop-less c = search needs
+shared-slice-read-if3 : tie.Need-shared-slice-read-if3
+shared-slice-read-if3 c = search needs
 
-loop-again : tie.Need-loop-again Inv-loop μ-loop
-loop-again c =
-    let l = c .before .before .before in
-    omega (arith, passed (l .before .before .before .args .s .now) (l .loop .i) (search needs) (c .if1 .left))
+sub-result : tie.Need-sub-result
+sub-result c = search needs
 
-returns-2 : tie.Need-returns-2 Inv-loop μ-loop
-returns-2 c = let l = c .before in omega (arith, none (l .before .before .before .args .s .now) (l .loop .i) (c .loop-test .left))
+returns-2 : tie.Need-returns-2
+returns-2 c =
+    let e = c .before .before in let t = e .before .before in
+    let s = t .before .before .args .s .now in let end = t .before .before .args .end in
+    let two : end - 1 - 1 ≡ end - 2 = omega arith in
+    let met = met s (end - 1) (search needs) (rw two (c .if3 .taken)) in
+    sym (passed s end (search needs) (e .if2 .left) ∙ met)
+
+behind-lf-far-requires : tie.Need-behind-lf-far-requires
+behind-lf-far-requires c κs = search needs
+
+returns-3 : tie.Need-returns-3
+returns-3 c = search needs
 
 pub behind-lf-spec : {M : Type 1} → statement M
 behind-lf-spec =
     tie.close
     (tie.spec
-    Inv-loop
-    μ-loop
-    before-runs-requires
-    loop-holds
-    sub-if1
-    shared-slice-read-if1
+    sub-if2
+    shared-slice-read-if2
     returns
-    sub-i
-    loop-less
-    loop-again
-    returns-2)
+    sub-if3
+    shared-slice-read-if3
+    sub-result
+    returns-2
+    behind-lf-far-requires
+    returns-3)

@@ -1,128 +1,178 @@
--- `find::find_lf` meets its contract. Assumes nothing.
-use mathlib.Core.Bool.{Bool, true, false, not, _&&_, false≢true}
-use mathlib.Core.List.{List}
-use mathlib.Core.Path.{_≡_, refl, sym, _∙_}
-use Prim.Native.Nat.{ℕ, _+_, _-_, _≤_, _<_}
+-- `find::find_lf` meets its contract. The invariant: a search from `i` on finds what one from `at` on finds. Assumes nothing.
+use mathlib.Core.Bool.{true, false}
+use mathlib.Core.Path.{_≡_, sym, _∙_}
+use Prim.Native.Nat.{_+_, _-_, _≤_}
 use native.Mathlib.Omega.{arith}
 use borrow.Author.Needs.{needs}
-use borrow.Author.Tests.{not-true}
-use lib.Dec.{leb, leb→le}
 use lib.ListN.{length, take, drop}
 use Rattle.rules.proofs.Parts.{rest}
 use Rattle.rules.specs.Lists.{any}
 use Rattle.find.specs.Find.{isLF, untilLF}
-use Rattle.find.proofs.Runs.{in-run, to-end, until-fits}
+use Rattle.find.proofs.Runs.{ends, goes, in-run, past-run, until-fits}
 use Rattle.find.proofs.find_lf.Statement.{statement}
 use Rattle.find.proofs.find_lf.Tie as tie
 
-both : (a b : Bool) → (a && b) ≡ true → (a ≡ true) × (b ≡ true)
-both true b e = (refl, e)
-both false b e = absurd (false≢true e)
+abbrev Inv-loop : tie.InvT-loop
+Inv-loop s at len i₀ i = (len ≡ length s) × ((i ≤ length s) × (i + untilLF (drop i s) ≡ at + untilLF (drop at s)))
 
--- what `past_runs` says of where the runs end
-abbrev Past : List ℕ → ℕ → ℕ → Type 0
-Past s at i =
-    (16 ≤ length s - i → any isLF (take 16 (drop i s)) ≡ true) × ((i ≤ length s) × (i + untilLF (drop i s) ≡ at + untilLF (drop at s)))
+abbrev μ-loop : tie.MeasureT-loop
+μ-loop s at len i₀ i = length s - i
 
-module _ (s : List ℕ) (at i : ℕ) (p : Past s at i) where
-  in-the-run : (n : ℕ) → 16 ≤ length s - i → n ≡ untilLF (take (i + 16 - i) (drop i s)) → (i + n ≡ at + untilLF (drop at s)) × (i + n ≤ length s)
-  in-the-run n h e =
-      let size : i + 16 - i ≡ 16 = omega arith in
-      let there : n ≡ untilLF (drop i s) = (rw size at e) ∙ in-run 16 s i (p .0 h) in
-      (omega (arith, there, p .1 .1), omega (arith, there, until-fits s i (p .1 .0)))
-
-  behind : (n : ℕ) → n ≡ untilLF (take (length s - i) (drop i s)) → (i + n ≡ at + untilLF (drop at s)) × (i + n ≤ length s)
-  behind n e =
-      let there : n ≡ untilLF (drop i s) = rw rest at e in
-      (omega (arith, there, p .1 .1), omega (arith, there, until-fits s i (p .1 .0)))
-
-  at-end : length s - i < 16 → (leb 16 (length s - at) && not (any isLF (drop (length s - 16) s))) ≡ true → length s ≡ at + untilLF (drop at s)
-  at-end short e =
-      let (whole, none) = both (leb 16 (length s - at)) (not (any isLF (drop (length s - 16) s))) e in
-      let h : 16 ≤ length s - at = leb→le 16 (length s - at) (rw whole tt) in
-      omega (arith, p .1 .1, to-end s (length s - 16) i (omega arith) (p .1 .0) (not-true _ none))
-
-past-runs-requires : tie.Need-past-runs-requires
-past-runs-requires c κs = search needs
-
-sub-if1 : tie.Need-sub-if1
+sub-if1 : tie.Need-sub-if1 Inv-loop μ-loop
 sub-if1 c = search needs
 
-add-until-lf : tie.Need-add-until-lf
-add-until-lf c = search needs
+shared-slice-read-if2 : tie.Need-shared-slice-read-if2 Inv-loop μ-loop
+shared-slice-read-if2 c = search needs
 
-sub-until-lf : tie.Need-sub-until-lf
-sub-until-lf c = search needs
-
-part-until-lf-start : tie.Need-part-until-lf-start
-part-until-lf-start c = search needs
-
-part-until-lf-end : tie.Need-part-until-lf-end
-part-until-lf-end c = search needs
-
-until-lf-requires : tie.Need-until-lf-requires
-until-lf-requires c κs = search needs
-
-add-result : tie.Need-add-result
-add-result c =
-    let t = c .before .before in
-    let k = in-the-run _ _ _ (t .before .past-runs .ensures) _ (t .if1 .taken) (c .until-lf .ensures) .1 in
-    search needs
-
-returns : tie.Need-returns
+returns : tie.Need-returns Inv-loop μ-loop
 returns c =
-    let t = c .before .before in
-    in-the-run _ _ _ (t .before .past-runs .ensures) _ (t .if1 .taken) (c .until-lf .ensures) .0
+    let a = c .before .before .before .before .args in
+    omega (arith, ends (a .s .now) (a .at) (search needs) (c .if2 .taken))
 
-ends-without-lf-requires : tie.Need-ends-without-lf-requires
-ends-without-lf-requires c κs = search needs
+add-if3 : tie.Need-add-if3 Inv-loop μ-loop
+add-if3 c = search needs
 
-returns-2 : tie.Need-returns-2
+shared-slice-read-if3 : tie.Need-shared-slice-read-if3 Inv-loop μ-loop
+shared-slice-read-if3 c = search needs
+
+add-result : tie.Need-add-result Inv-loop μ-loop
+add-result c = search needs
+
+returns-2 : tie.Need-returns-2 Inv-loop μ-loop
 returns-2 c =
-    let e = c .before in let t = e .before in
-    at-end _ _ _ (t .before .past-runs .ensures) (omega (arith, t .if1 .left)) (sym (e .ends-without-lf .ensures) ∙ c .if2 .taken)
+    let e = c .before .before in
+    let a = e .before .before .before .before .args in
+    let first = goes (a .s .now) (a .at) (search needs) (e .if2 .left) in
+    omega (arith, first, ends (a .s .now) (a .at + 1) (search needs) (c .if3 .taken))
 
-sub-until-lf-2 : tie.Need-sub-until-lf-2
-sub-until-lf-2 c = search needs
+loop-holds : tie.Need-loop-holds Inv-loop μ-loop
+loop-holds c = search needs
 
-part-until-lf-start-2 : tie.Need-part-until-lf-start-2
-part-until-lf-start-2 c = search needs
+sub-loop : tie.Need-sub-loop Inv-loop μ-loop
+sub-loop c = search needs
 
-part-until-lf-end-2 : tie.Need-part-until-lf-end-2
-part-until-lf-end-2 c = search needs
+add-has-lf : tie.Need-add-has-lf Inv-loop μ-loop
+add-has-lf c = search needs
 
-until-lf-requires-2 : tie.Need-until-lf-requires-2
-until-lf-requires-2 c κs = search needs
+sub-has-lf : tie.Need-sub-has-lf Inv-loop μ-loop
+sub-has-lf c = search needs
 
-add-result-2 : tie.Need-add-result-2
-add-result-2 c =
-    let t = c .before .before .before .before in
-    let k = behind _ _ _ (t .before .past-runs .ensures) _ (c .until-lf2 .ensures) .1 in
-    search needs
+part-has-lf-start : tie.Need-part-has-lf-start Inv-loop μ-loop
+part-has-lf-start c = search needs
 
-returns-3 : tie.Need-returns-3
-returns-3 c =
-    let t = c .before .before .before .before in
-    behind _ _ _ (t .before .past-runs .ensures) _ (c .until-lf2 .ensures) .0
+part-has-lf-end : tie.Need-part-has-lf-end Inv-loop μ-loop
+part-has-lf-end c = search needs
+
+has-lf-requires : tie.Need-has-lf-requires Inv-loop μ-loop
+has-lf-requires c κs = search needs
+
+add-until-lf-of-part : tie.Need-add-until-lf-of-part Inv-loop μ-loop
+add-until-lf-of-part c = search needs
+
+sub-until-lf-of-part : tie.Need-sub-until-lf-of-part Inv-loop μ-loop
+sub-until-lf-of-part c = search needs
+
+part-until-lf-of-part-start : tie.Need-part-until-lf-of-part-start Inv-loop μ-loop
+part-until-lf-of-part-start c = search needs
+
+part-until-lf-of-part-end : tie.Need-part-until-lf-of-part-end Inv-loop μ-loop
+part-until-lf-of-part-end c = search needs
+
+until-lf-of-part-requires : tie.Need-until-lf-of-part-requires Inv-loop μ-loop
+until-lf-of-part-requires c κs = search needs
+
+-- the run at `i` has the next LF
+in-the-run : (c : tie.After-until-lf-of-part Inv-loop μ-loop) → let l = c .before .before .before .before .before .before in let s = l .before .before .before .args .s .now in
+    let at = l .before .before .before .args .at in
+    (l .loop .i + c .until-lf-of-part .result ≡ at + untilLF (drop at s)) × (at + untilLF (drop at s) ≤ length s)
+in-the-run c =
+    let r = c .before .before .before in let l = r .before .before .before in
+    let s = l .before .before .before .args .s .now in let i = l .loop .i in
+    let size : i + 16 - i ≡ 16 = omega arith in
+    let some : any isLF (take 16 (drop i s)) ≡ true = rw size at (sym (r .has-lf .ensures) ∙ c .before .before .if4 .taken) in
+    let there : c .until-lf-of-part .result ≡ untilLF (drop i s) = (rw size at (c .until-lf-of-part .ensures)) ∙ in-run 16 s i some in
+    (omega (arith, there, l .loop .inv .1 .1), until-fits s (l .before .before .before .args .at) (search needs))
+
+add-result-2 : tie.Need-add-result-2 Inv-loop μ-loop
+add-result-2 c = let k = in-the-run c in search needs
+
+returns-3 : tie.Need-returns-3 Inv-loop μ-loop
+returns-3 c = in-the-run c .0
+
+add-i : tie.Need-add-i Inv-loop μ-loop
+add-i c = search needs
+
+loop-less : tie.Need-loop-less Inv-loop μ-loop
+loop-less c = search needs
+
+loop-again : tie.Need-loop-again Inv-loop μ-loop
+loop-again c =
+    let r = c .before in let l = r .before .before .before in let s = l .before .before .before .args .s .now in
+    let i = l .loop .i in
+    let size : i + 16 - i ≡ 16 = omega arith in
+    let none : any isLF (take 16 (drop i s)) ≡ false = rw size at (sym (r .has-lf .ensures) ∙ c .if4 .left) in
+    omega (arith, past-run 16 s i (omega arith) none)
+
+sub-until-lf-of-part-2 : tie.Need-sub-until-lf-of-part-2 Inv-loop μ-loop
+sub-until-lf-of-part-2 c = search needs
+
+part-until-lf-of-part-start-2 : tie.Need-part-until-lf-of-part-start-2 Inv-loop μ-loop
+part-until-lf-of-part-start-2 c = search needs
+
+part-until-lf-of-part-end-2 : tie.Need-part-until-lf-of-part-end-2 Inv-loop μ-loop
+part-until-lf-of-part-end-2 c = search needs
+
+until-lf-of-part-requires-2 : tie.Need-until-lf-of-part-requires-2 Inv-loop μ-loop
+until-lf-of-part-requires-2 c κs = search needs
+
+-- what is left has it, or none is there
+in-the-rest : (c : tie.After-until-lf-of-part2 Inv-loop μ-loop) → let l = c .before .before .before in let s = l .before .before .before .args .s .now in
+    let at = l .before .before .before .args .at in
+    (l .loop .i + c .until-lf-of-part2 .result ≡ at + untilLF (drop at s)) × (at + untilLF (drop at s) ≤ length s)
+in-the-rest c =
+    let l = c .before .before .before in let s = l .before .before .before .args .s .now in
+    let there : c .until-lf-of-part2 .result ≡ untilLF (drop (l .loop .i) s) = rw (rest s (l .loop .i)) at (c .until-lf-of-part2 .ensures) in
+    (omega (arith, there, l .loop .inv .1 .1), until-fits s (l .before .before .before .args .at) (search needs))
+
+add-result-3 : tie.Need-add-result-3 Inv-loop μ-loop
+add-result-3 c = let k = in-the-rest c in search needs
+
+returns-4 : tie.Need-returns-4 Inv-loop μ-loop
+returns-4 c = in-the-rest c .0
 
 pub find-lf-spec : {M : Type 1} → statement M
 find-lf-spec =
     tie.close
     (tie.spec
-    past-runs-requires
+    Inv-loop
+    μ-loop
     sub-if1
-    add-until-lf
-    sub-until-lf
-    part-until-lf-start
-    part-until-lf-end
-    until-lf-requires
-    add-result
+    shared-slice-read-if2
     returns
-    ends-without-lf-requires
+    add-if3
+    shared-slice-read-if3
+    add-result
     returns-2
-    sub-until-lf-2
-    part-until-lf-start-2
-    part-until-lf-end-2
-    until-lf-requires-2
+    loop-holds
+    sub-loop
+    add-has-lf
+    sub-has-lf
+    part-has-lf-start
+    part-has-lf-end
+    has-lf-requires
+    add-until-lf-of-part
+    sub-until-lf-of-part
+    part-until-lf-of-part-start
+    part-until-lf-of-part-end
+    until-lf-of-part-requires
     add-result-2
-    returns-3)
+    returns-3
+    add-i
+    loop-less
+    loop-again
+    sub-until-lf-of-part-2
+    part-until-lf-of-part-start-2
+    part-until-lf-of-part-end-2
+    until-lf-of-part-requires-2
+    add-result-3
+    returns-4)

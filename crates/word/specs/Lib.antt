@@ -1,0 +1,2 @@
+-- Eight bytes as one number.
+pub mod Word
