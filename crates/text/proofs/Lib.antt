@@ -2,4 +2,5 @@
 pub mod Lines
 pub mod ByLines
 pub mod Equal
+pub mod Words
 pub mod Endings

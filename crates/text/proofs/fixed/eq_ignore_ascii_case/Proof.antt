@@ -1,9 +1,9 @@
 -- `text::fixed::eq_ignore_ascii_case` meets its contract. The invariant: the two are the same, ASCII case aside, just where they
 -- were alike so far and what is left of them is the same. Assumes nothing.
 use mathlib.Core.Bool.{Bool, true, false, and-assoc, and-true, _&&_}
-use mathlib.Core.List.{List, [], _∷_, map}
-use mathlib.Core.Path.{_≡_, refl, sym, ap, _∙_}
-use Prim.Native.Nat.{ℕ, suc, _+_, _-_, _≤_, _<_}
+use mathlib.Core.List.{List, map}
+use mathlib.Core.Path.{_≡_, sym, _∙_}
+use Prim.Native.Nat.{ℕ, _+_, _-_, _≤_, _<_}
 use native.Mathlib.Numerals.{add-one}
 use native.Mathlib.Omega.{arith}
 use borrow.Author.Needs.{needs}
@@ -11,7 +11,6 @@ use lib.Dec.{eqb}
 use lib.ListN.{length, drop, getD, drop-of-length-le, length-map}
 use lib.Seq.{drop-cons}
 use Rattle.rules.specs.Bytes.{lower}
-use Rattle.rules.specs.Lists.{equal}
 use Rattle.rules.specs.Trailer.{same}
 use Rattle.text.proofs.Equal.{equal-long}
 use Rattle.text.proofs.fixed.eq_ignore_ascii_case.Statement.{statement}
