@@ -32,7 +32,7 @@ onward s at = take (length s - at) (drop at s)
 -- ---- what an answer of `trailer_at_start` tells of the lines from there on
 
 abbrev isTrailer : TrailerAtStart → Bool
-isTrailer (TrailerAtStart.Trailer token value len) = true
+isTrailer (TrailerAtStart.Trailer token value first len) = true
 isTrailer TrailerAtStart.NoTrailer = false
 
 first-told : (ls : List Line) (r : TrailerAtStart) → atStart ls ≡ r → first trailerLine ls ≡ isTrailer r
@@ -42,7 +42,7 @@ first-told (l ∷ ls) r e = by (trailerLine l) ∙ ap isTrailer e
   where
     by : (b : Bool)
         → b ≡ isTrailer (if b
-        then TrailerAtStart.Trailer (length (tokenIn l)) (length (tokenIn l) + length (gapIn l) + 1) (length l + length (join (run folds ls)))
+        then TrailerAtStart.Trailer (length (tokenIn l)) (length (tokenIn l) + length (gapIn l) + 1) (length l) (length l + length (join (run folds ls)))
         else TrailerAtStart.NoTrailer)
     by true = refl
     by false = refl
@@ -58,7 +58,7 @@ line-passes : (l : Line) (ls : List Line) → trailerLine l ≡ false
 line-passes l ls e = rw e (length-append l (join (messageLines ls)))
 
 module _ (s : List ℕ) (at : ℕ) where
-  pub message-ends : {token value len : ℕ} → atStart (lines (onward s at)) ≡ TrailerAtStart.Trailer token value len
+  pub message-ends : {token value first len : ℕ} → atStart (lines (onward s at)) ≡ TrailerAtStart.Trailer token value first len
       → messageLength (drop at s) ≡ 0
   message-ends q = rw (trailer-stops (lines (drop at s)) (first-told (lines (drop at s)) _ (rw rest at q)))
 
@@ -105,18 +105,18 @@ module _ (s : List ℕ) (at : ℕ) where
   pub part-ends : atStart (lines (onward s at)) ≡ TrailerAtStart.NoTrailer → partLength (drop at s) ≡ 0
   part-ends q = rw (none-stops (lines (drop at s)) (first-told (lines (drop at s)) _ (rw rest at q)))
 
-  pub trailer-within : {token value len : ℕ} → at ≤ length s
-      → atStart (lines (onward s at)) ≡ TrailerAtStart.Trailer token value len → (0 < len) × (at + len ≤ length s)
+  pub trailer-within : {token value first len : ℕ} → at ≤ length s
+      → atStart (lines (onward s at)) ≡ TrailerAtStart.Trailer token value first len → (0 < len) × (at + len ≤ length s)
   trailer-within h q =
-      let (x, y, z) = rw q at (start-within (onward s at)) in
-      (omega (arith, y), omega (arith, z, length-take-le (length s - at) (drop at s) (omega (arith, length-drop at s))))
+      let (x, y, w, z) = rw q at (start-within (onward s at)) in
+      (omega (arith, y, w), omega (arith, z, length-take-le (length s - at) (drop at s) (omega (arith, length-drop at s))))
 
-  pub part-trailer : {token value len : ℕ} → atStart (lines (onward s at)) ≡ TrailerAtStart.Trailer token value len
+  pub part-trailer : {token value first len : ℕ} → atStart (lines (onward s at)) ≡ TrailerAtStart.Trailer token value first len
       → partLength (drop at s) ≡ len + partLength (drop (at + len) s)
   unfolding atStart
-  part-trailer {token} {value} {len} q = of (lines (drop at s)) refl (rw rest at q)
+  part-trailer {token} {value} {first} {len} q = of (lines (drop at s)) refl (rw rest at q)
     where
-      of : (ls : List Line) → lines (drop at s) ≡ ls → atStart ls ≡ TrailerAtStart.Trailer token value len
+      of : (ls : List Line) → lines (drop at s) ≡ ls → atStart ls ≡ TrailerAtStart.Trailer token value first len
           → partLength (drop at s) ≡ len + partLength (drop (at + len) s)
       of [] e f = cc
       of (l ∷ ls) e f =

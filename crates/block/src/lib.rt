@@ -52,6 +52,7 @@ fn trailers_len(cursor: &[u8]) -> usize
     while let TrailerAtStart::Trailer {
         token_end: _,
         value_start: _,
+        first: _,
         len: trailer,
     } = trailer_at_start(&cursor[len..]) {
         len += trailer;

@@ -19,7 +19,7 @@ use Rattle.rules.specs.Division.{Block, block}
 use Rattle.rules.specs.Number.{cursorAt, cursorFits, lineNumber, movedOn}
 use Rattle.rules.specs.Paragraph.{blockStart}
 use Rattle.rules.specs.Record.{fitted, placesOf, recordOf, writtenOf}
-use Rattle.rules.specs.Trailer.{Trailer, isOf, lookup, only, placeOf, rawValue, walkFrom}
+use Rattle.rules.specs.Trailer.{Trailer, isOf, lookup, only, placeOf, rawValue, valueIsWritten, walkFrom}
 use Rattle.rules.specs.declared.BlockStep.{BlockStep}
 use Rattle.rules.specs.declared.Cursor.{Cursor}
 use Rattle.rules.specs.declared.Kind.{Kind}
@@ -29,7 +29,7 @@ use Rattle.rules.specs.declared.TrailerRef.{TrailerRef}
 use Rattle.rules.specs.declared.TrailerStep.{TrailerStep}
 use Rattle.rules.proofs.Answers.{judged-answer, trailer-step-decides}
 use Rattle.rules.proofs.Number.{fits-is, moved-twice, moved-within}
-use Rattle.rules.proofs.Record.{places-fit}
+use Rattle.rules.proofs.Record.{may-read, places-fit}
 use Rattle.rules.proofs.Walk.{Stands, lookup-stands, only-stands, those-place}
 use Rattle.trailer.proofs.Steps.{First, first-is, none-is}
 use Rattle.trailer.specs.Walk.{nextOf}
@@ -92,8 +92,9 @@ module _ (kind : Kind) (body : List ℕ) (c : Cursor) (short : ltb limit (length
     abbrev written : List ℕ
     written = writtenOf (rawValue (f .found))
 
-    pub step-fits : (p .«value_start» ≤ p .end) × (p .end ≤ length body)
-    step-fits = let (a, b, c, d) = places-fit w (f .places) in (c, d)
+    pub step-fits : ((p .«value_start» ≤ p .end) × (p .end ≤ length body))
+        × (valueIsWritten (take (p .end - p .«value_start») (drop (p .«value_start») body)) ≡ ltb (p .«first_end») (p .end))
+    step-fits = may-read w (f .places)
 
     pub step-found : {here next : Cursor} → here ≡ movedOn body c (p .start) → next ≡ movedOn body here (p .end)
         → {r : TrailerRead} (room : ℕ) → r ≡ trailerRead (here .line) p (take (p .end - p .«value_start») (drop (p .«value_start») body)) room
@@ -150,8 +151,9 @@ module _ (body name : List ℕ) (short : ltb limit (length body) ≡ false) (bri
     at-l : Stands body (l .found)
     at-l = lookup-stands body (blockStart body) name (l .there)
 
-    pub find-fits : (p .«value_start» ≤ p .end) × (p .end ≤ length body)
-    find-fits = let (a, b, c, d) = places-fit at-l (l .places) in (c, d)
+    pub find-fits : ((p .«value_start» ≤ p .end) × (p .end ≤ length body))
+        × (valueIsWritten (take (p .end - p .«value_start») (drop (p .«value_start») body)) ≡ ltb (p .«first_end») (p .end))
+    find-fits = may-read at-l (l .places)
 
     pub start-inside : p .start ≤ length body
     start-inside = let (a, b, c, d) = places-fit at-l (l .places) in omega (arith, a, b, c, d)

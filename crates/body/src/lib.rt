@@ -61,6 +61,7 @@ pub fn next_trailer_of(body: &[u8], cursor: Cursor, kind: Kind, out: &mut [u8]) 
     let start = places.start;
     let token_end = places.token_end;
     let value_start = places.value_start;
+    let first_end = places.first_end;
     let end = places.end;
     let here = move_on(body, cursor, start);
     let next = move_on(body, here, end);
@@ -68,6 +69,7 @@ pub fn next_trailer_of(body: &[u8], cursor: Cursor, kind: Kind, out: &mut [u8]) 
         start,
         token_end,
         value_start,
+        first_end,
         end,
     };
     let read = read_trailer(body, found, here.line, out);
@@ -244,12 +246,14 @@ pub fn find_trailer(body: &[u8], name: &[u8], out: &mut [u8]) -> TrailerFound
     let start = places.start;
     let token_end = places.token_end;
     let value_start = places.value_start;
+    let first_end = places.first_end;
     let end = places.end;
     let there = right_cursor(body, start);
     let found = Places {
         start,
         token_end,
         value_start,
+        first_end,
         end,
     };
     let read = read_trailer(body, found, there.line, out);

@@ -46,7 +46,7 @@ moreOf [] = false
 moreOf (t ∷ ts) = true
 
 abbrev pub nowhere : Places
-nowhere = record { start = 0; «token_end» = 0; «value_start» = 0; end = 0 }
+nowhere = record { start = 0; «token_end» = 0; «value_start» = 0; «first_end» = 0; end = 0 }
 
 abbrev pub aheadOf : List Trailer → Places
 aheadOf [] = nowhere

@@ -5,17 +5,18 @@ use Prim.Native.Nat.{ℕ, _+_, _-_, _≤_, _<_, _^_}
 use native.Mathlib.Omega.{arith}
 use borrow.Author.Tests.{le-ltb}
 use borrow.Rule.Slice.PartMut.{putMid}
+use lib.Dec.{ltb}
 use lib.ListN.{length, take, drop, length-drop}
 use lib.Seq.{length-take-le}
 use Rattle.record.specs.Read.{trailerRead}
 use Rattle.record.specs.declared.TrailerRead.{TrailerRead}
 use Rattle.rules.proofs.Number.{fits-is, moved-twice, moved-within}
 use Rattle.rules.proofs.Parts.{rest}
-use Rattle.rules.proofs.Record.{places-fit, raw-is}
+use Rattle.rules.proofs.Record.{may-read, places-fit, raw-is}
 use Rattle.rules.proofs.Walk.{Stands, those-place, walk-stands, walk-step}
 use Rattle.rules.specs.Number.{movedOn}
 use Rattle.rules.specs.Record.{fitted, placesOf, recordOf, writtenOf}
-use Rattle.rules.specs.Trailer.{Trailer, endOf, isOf, placeOf, rawValue, rawValueAt}
+use Rattle.rules.specs.Trailer.{Trailer, endOf, isOf, placeOf, rawValue, rawValueAt, valueIsWritten}
 use Rattle.rules.specs.declared.Cursor.{Cursor}
 use Rattle.rules.specs.declared.Kind.{Kind}
 use Rattle.rules.specs.declared.Places.{Places}
@@ -72,8 +73,8 @@ module _ (input : List ℕ) (p : Spot) (out : List ℕ) (y : Ready input p (leng
       let place = those-place s (isOf Kind.All) (p .cursor .at) (leftAt p input) t (first .behind) refl (all-kept (leftAt p input) ∙ first .is) in
       (fits-is s (p .cursor) (y .placed) .2, omega (arith, place, ap (λ (k : Places). k .start) places), omega (arith, places-fit there places))
 
-  pub read-fits : (p .ahead .«value_start» ≤ p .ahead .end) × (p .ahead .end ≤ length s)
-  read-fits = let (a, b, c, d) = places-fit there places in (c, d)
+  pub read-fits : ((p .ahead .«value_start» ≤ p .ahead .end) × (p .ahead .end ≤ length s)) × (valueIsWritten raw ≡ ltb (p .ahead .«first_end») (p .ahead .end))
+  read-fits = may-read there places
 
   -- its number is one of a line
   pub first-line : 1 ≤ movedOn s (p .cursor) (placeOf t) .line
@@ -81,7 +82,7 @@ module _ (input : List ℕ) (p : Spot) (out : List ℕ) (y : Ready input p (leng
 
   module _ {here : Cursor} (h : here ≡ movedOn s (p .cursor) (p .ahead .start)) where
     pub end-fits : (here .line ≤ here .at + 1) × (here .at ≤ p .ahead .end) × (p .ahead .end ≤ length s)
-    end-fits = rw h (moved-within s (p .cursor) (p .ahead .start) (start-fits .0) (start-fits .1), omega (arith, places-fit there places), read-fits .1)
+    end-fits = rw h (moved-within s (p .cursor) (p .ahead .start) (start-fits .0) (start-fits .1), omega (arith, places-fit there places), read-fits .0 .1)
 
     next-is : {next : Cursor} → next ≡ movedOn s here (p .ahead .end) → next ≡ movedOn s (p .cursor) (endOf t)
     next-is n =
@@ -108,7 +109,7 @@ module _ (input : List ℕ) (p : Spot) (out : List ℕ) (y : Ready input p (leng
 
     module _ {r : TrailerRef} (e : r ≡ recordOf (movedOn s (p .cursor) (placeOf t) .line) t) {next : Cursor} (n : next ≡ movedOn s here (p .ahead .end)) where
       pub next-within : next .at ≤ length s
-      next-within = rw n (read-fits .1)
+      next-within = rw n (read-fits .0 .1)
 
       -- what is asked of a turn: its places fit
       pub turn-fits : length out < 2 ^ 64 → (p .done .bytes + taken (r .value) < 2 ^ 64) × (from (r .value) ≤ taken (r .value))

@@ -105,6 +105,7 @@ fn stand_last(end: usize, cursor: Cursor, done: Counts, outcome: Listing, told: 
             start: 0,
             token_end: 0,
             value_start: 0,
+            first_end: 0,
             end: 0,
         },
         done,
@@ -127,6 +128,7 @@ fn stand(text: &[u8], cursor: Cursor, done: Counts, outcome: Listing, told: Told
         start: found.start,
         token_end: found.token_end,
         value_start: found.value_start,
+        first_end: found.first_end,
         end: found.end,
     };
     Spot {

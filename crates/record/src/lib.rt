@@ -1,8 +1,10 @@
 // The record of a trailer, read from where the trailer stands.
 ghost use mathlib.Core.Path.{_≡_};
 ghost use Prim.Native.Nat.{_-_, _≤_};
+ghost use lib.Dec.{ltb};
 ghost use lib.ListN.{length, take, drop};
 ghost use Rattle.rules.specs.Record.{fitted, writtenOf};
+ghost use Rattle.rules.specs.Trailer.{valueIsWritten};
 ghost use Rattle.record.specs.Read.{trailerRead};
 use rules::Part;
 use rules::Places;
@@ -22,13 +24,15 @@ pub enum TrailerRead {
 // to the front of `out`. The bytes behind the colon end as the trailer's last line does.
 pub fn read_trailer(body: &[u8], at: Places, line: usize, out: &mut [u8]) -> TrailerRead
     requires { ⌜ (at .«value_start» ≤ at .end) × (at .end ≤ length (now body)) ⌝ }
+    requires { ⌜ valueIsWritten (take (at .end - at .«value_start») (drop (at .«value_start») (now body))) ≡ ltb (at .«first_end») (at .end) ⌝ }
     ensures { λ r. ⌜ r ≡ trailerRead line at (take (at .end - at .«value_start») (drop (at .«value_start») (now (body .entry)))) (length (now (out .entry))) ⌝ }
     ensures { λ _. ⌜ now (out .exit) ≡ fitted (writtenOf (take (at .end - at .«value_start») (drop (at .«value_start») (now (body .entry))))) (now (out .entry)) ⌝ }
 {
     let from = at.value_start;
+    let first = at.first_end;
     let to = at.end;
     let ending = trim_line_ending(&body[from..to]).ending;
-    let read = read_value(body, from, to, out);
+    let read = read_value(body, from, first, to, out);
     match read {
         ValueFound::At(value) => TrailerRead::Trailer(TrailerRef {
             token: Part {

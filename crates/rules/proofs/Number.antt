@@ -49,7 +49,7 @@ feeds-split s from to h =
 
 -- ---- LFs and lines
 
-append-filled : (x y : List ℕ) → T (filled y) → T (filled (x ++ y))
+pub append-filled : (x y : List ℕ) → T (filled y) → T (filled (x ++ y))
 append-filled [] y f = f
 append-filled (c ∷ x) y f = tt
 

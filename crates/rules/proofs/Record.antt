@@ -1,12 +1,14 @@
--- A trailer that stands in a body, by its places: they are in order and inside the body, and its token and its raw value are what
--- stands between them. Assumes nothing.
+-- A trailer that stands in a body, by its places: they are in order and inside the body, its token and its raw value are what stands
+-- between them, and where its first line ends tells whether its value is unfolded. Assumes nothing.
 use mathlib.Core.List.{List}
-use mathlib.Core.Path.{_≡_}
+use mathlib.Core.Path.{_≡_, sym, ap, _∙_}
 use Prim.Native.Nat.{ℕ, _+_, _-_, _≤_, _<_}
 use native.Mathlib.Omega.{arith}
+use lib.Dec.{ltb}
 use lib.ListN.{length, take, drop}
+use Rattle.rules.specs.Lines.{lines}
 use Rattle.rules.specs.Record.{placesOf}
-use Rattle.rules.specs.Trailer.{Trailer, placeOf, endOf, tokenOf, rawValue, rawValueAt}
+use Rattle.rules.specs.Trailer.{Trailer, placeOf, endOf, tokenOf, rawValue, rawValueAt, valueIsWritten}
 use Rattle.rules.specs.declared.Places.{Places}
 use Rattle.rules.proofs.Walk.{Stands}
 
@@ -24,3 +26,14 @@ module _ {body : List ℕ} {t : Trailer} {at : Places} (w : Stands body t) (e : 
   raw-is =
       let size : endOf t - rawValueAt t ≡ length (rawValue t) = omega (arith, w .raw-ends) in
       rw (e, size) (w .raw-value-at)
+
+  -- what is asked of who reads its record
+  pub may-read : ((at .«value_start» ≤ at .end) × (at .end ≤ length body))
+      × (valueIsWritten (take (at .end - at .«value_start») (drop (at .«value_start») body)) ≡ ltb (at .«first_end») (at .end))
+  may-read =
+      let (a, b, c, d) = places-fit in
+      ((c, d), ap valueIsWritten raw-is ∙ w .folded-is ∙ ap (λ (p : Places). ltb (p .«first_end») (p .end)) (sym e))
+
+  -- its first line is one line
+  pub first-line-is : length (lines (take (at .«first_end» - at .start) (drop (at .start) body))) ≡ 1
+  first-line-is = rw e (w .first-at)

@@ -5,7 +5,7 @@ use Prim.Native.Nat.{ℕ, _+_}
 use lib.Dec.{ltb}
 use lib.ListN.{length, drop}
 use Rattle.rules.specs.Lists.{if_then_else_}
-use Rattle.rules.specs.Trailer.{Trailer, placeOf, endOf, endingOf, tokenOf, rawValue, rawValueAt, unfolded, valueIsWritten}
+use Rattle.rules.specs.Trailer.{Trailer, placeOf, endOf, firstEndOf, endingOf, tokenOf, rawValue, rawValueAt, unfolded, valueIsWritten}
 use Rattle.rules.specs.White.{trim, trimAt}
 use Rattle.rules.specs.declared.Ending.{Ending}
 use Rattle.rules.specs.declared.Part.{Part}
@@ -49,6 +49,7 @@ placesOf t = record {
   start = placeOf t;
   «token_end» = placeOf t + length (tokenOf t);
   «value_start» = rawValueAt t;
+  «first_end» = firstEndOf t;
   end = endOf t;
 }
 

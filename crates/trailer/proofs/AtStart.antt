@@ -26,19 +26,19 @@ length-within s n k e q =
     let within : k ≤ length (drop n s) = rw (q, rest s n) (rw (join-lines (drop n s)) at (run-shorter folds (lines (drop n s)))) in
     omega (arith, e, within, first-within s, length-drop n s)
 
--- the first line's answer, with the length of the trailer
-abbrev withLength : TrailerLine → ℕ → TrailerAtStart
-withLength (TrailerLine.At token value) len = TrailerAtStart.Trailer token value len
-withLength TrailerLine.NoTrailer len = TrailerAtStart.NoTrailer
+-- the first line's answer, with the lengths of that line and of the trailer
+abbrev withLengths : TrailerLine → ℕ → ℕ → TrailerAtStart
+withLengths (TrailerLine.At token value) first len = TrailerAtStart.Trailer token value first len
+withLengths TrailerLine.NoTrailer first len = TrailerAtStart.NoTrailer
 
-either-way : (b : Bool) (token value len : ℕ)
-    → (if b then TrailerAtStart.Trailer token value len else TrailerAtStart.NoTrailer)
-    ≡ withLength (if b then TrailerLine.At token value else TrailerLine.NoTrailer) len
-either-way true token value len = refl
-either-way false token value len = refl
+either-way : (b : Bool) (token value first len : ℕ)
+    → (if b then TrailerAtStart.Trailer token value first len else TrailerAtStart.NoTrailer)
+    ≡ withLengths (if b then TrailerLine.At token value else TrailerLine.NoTrailer) first len
+either-way true token value first len = refl
+either-way false token value first len = refl
 
 at-start-by : (s : List ℕ) (n : ℕ) → n ≡ firstLength (lines s)
-    → atStart (lines s) ≡ withLength (parsed s) (n + length (join (run folds (lines (take (length s - n) (drop n s))))))
+    → atStart (lines s) ≡ withLengths (parsed s) n (n + length (join (run folds (lines (take (length s - n) (drop n s))))))
 unfolding atStart parsed trailerLine named
 at-start-by [] n e = refl
 at-start-by (c ∷ s) n e =
@@ -48,19 +48,19 @@ at-start-by (c ∷ s) n e =
     let size : length l ≡ n = sym (e ∙ ap firstLength cut) in
     let token : ℕ = length (tokenIn l) in
     rw (rest (c ∷ s) n, parsed-front (c ∷ s) l ls cut, cut, size)
-    (either-way (trailerLine l) token (token + length (gapIn l) + 1) (n + length (join (run folds ls))))
+    (either-way (trailerLine l) token (token + length (gapIn l) + 1) n (n + length (join (run folds ls))))
 
 pub no-trailer-there : (s : List ℕ) → parsed s ≡ TrailerLine.NoTrailer → atStart (lines s) ≡ TrailerAtStart.NoTrailer
 no-trailer-there s p = at-start-by s (firstLength (lines s)) refl ∙ rw p
 
 pub trailer-there : (s : List ℕ) {token value : ℕ} (n : ℕ) → parsed s ≡ TrailerLine.At token value → n ≡ firstLength (lines s)
-    → atStart (lines s) ≡ TrailerAtStart.Trailer token value (n + length (join (run folds (lines (take (length s - n) (drop n s))))))
+    → atStart (lines s) ≡ TrailerAtStart.Trailer token value n (n + length (join (run folds (lines (take (length s - n) (drop n s))))))
 trailer-there s n p e = at-start-by s n e ∙ rw p
 
 -- ---- the places lie in order, inside of what is handed on
 
 abbrev pub Within : ℕ → TrailerAtStart → Type 0
-Within n (TrailerAtStart.Trailer token value len) = (token < value) × (value ≤ len) × (len ≤ n)
+Within n (TrailerAtStart.Trailer token value first len) = (token < value) × (value ≤ first) × (first ≤ len) × (len ≤ n)
 Within n TrailerAtStart.NoTrailer = Unit {0}
 
 colon-within : (l : Line) → T (trailerLine l) → length (tokenIn l) + length (gapIn l) < length l
@@ -77,5 +77,5 @@ start-within s = of (lines s) (join-lines s)
         by : (b : Bool) → trailerLine l ≡ b → Within (length s) (atStart (l ∷ ls))
         by true q =
             let size : length l + length (join ls) ≡ length s = sym (length-append l (join ls)) ∙ ap length e in
-            rw q (omega arith, omega (arith, colon-within l (rw q tt)), omega (arith, run-shorter folds ls))
+            rw q (omega arith, omega (arith, colon-within l (rw q tt)), omega arith, omega (arith, run-shorter folds ls))
         by false q = rw q tt

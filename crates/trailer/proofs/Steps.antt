@@ -22,12 +22,18 @@ use Rattle.trailer.specs.declared.walk.NextTrailer.{NextTrailer}
 use Rattle.trailer.proofs.AtStart.{start-within}
 use Rattle.text.proofs.ByLines.{line-then, line-length}
 
-abbrev placesFrom : ℕ → ℕ → ℕ → ℕ → Places
-placesFrom at token value len = record { start = at; «token_end» = at + token; «value_start» = at + value; end = at + len }
+abbrev placesFrom : ℕ → ℕ → ℕ → ℕ → ℕ → Places
+placesFrom at token value first len = record {
+  start = at;
+  «token_end» = at + token;
+  «value_start» = at + value;
+  «first_end» = at + first;
+  end = at + len;
+}
 
 -- a trailer at `at`, by its places counted from its start; another answer where none is there
 abbrev nextAt : ℕ → TrailerAtStart → NextTrailer → NextTrailer
-nextAt at (TrailerAtStart.Trailer token value len) other = NextTrailer.Trailer (placesFrom at token value len)
+nextAt at (TrailerAtStart.Trailer token value first len) other = NextTrailer.Trailer (placesFrom at token value first len)
 nextAt at TrailerAtStart.NoTrailer other = other
 
 next-by : (at : ℕ) (l : Line) (ls : List Line) → nextOf (walk at (l ∷ ls)) ≡ nextAt at (atStart (l ∷ ls)) (nextOf (walk (at + length l) ls))
@@ -54,14 +60,14 @@ module _ (body : List ℕ) (at : ℕ) (h : at < length body) where
       → n ≡ firstLength (lines (take (length body - at) (drop at body))) → nextOf (walkFrom body at) ≡ nextOf (walkFrom body (at + n))
   next-skips n q e = next-there n e ∙ rw q
 
-  module _ {token value len : ℕ} (q : atStart (lines (take (length body - at) (drop at body))) ≡ TrailerAtStart.Trailer token value len) where
-    pub next-found : nextOf (walkFrom body at) ≡ NextTrailer.Trailer (placesFrom at token value len)
+  module _ {token value first len : ℕ} (q : atStart (lines (take (length body - at) (drop at body))) ≡ TrailerAtStart.Trailer token value first len) where
+    pub next-found : nextOf (walkFrom body at) ≡ NextTrailer.Trailer (placesFrom at token value first len)
     next-found = next-there (firstLength (lines (take (length body - at) (drop at body)))) refl ∙ rw q
 
-    pub found-within : (token < value) × (value ≤ len) × (at + len ≤ length body)
+    pub found-within : (token < value) × (value ≤ first) × (first ≤ len) × (at + len ≤ length body)
     found-within =
-        let (x, y, z) = rw q at (start-within (take (length body - at) (drop at body))) in
-        (x, y, omega (arith, z, length-take-le (length body - at) (drop at body) (omega (arith, length-drop at body))))
+        let (x, y, w, z) = rw q at (start-within (take (length body - at) (drop at body))) in
+        (x, y, w, omega (arith, z, length-take-le (length body - at) (drop at body) (omega (arith, length-drop at body))))
 
 pub next-ends : (body : List ℕ) (at : ℕ) → length body ≤ at → nextOf (walkFrom body at) ≡ NextTrailer.End
 next-ends body at h = rw (walk-ends body at h)

@@ -12,10 +12,10 @@ use Rattle.trailer.specs.declared.line.TrailerLine.{TrailerLine}
 unfoldable pub parsed : Line → TrailerLine
 parsed l = if trailerLine l then TrailerLine.At (length (tokenIn l)) (length (tokenIn l) + length (gapIn l) + 1) else TrailerLine.NoTrailer
 
--- "A trailer is such a line with every indented, non-blank line directly after it": the same, and the trailer's length
+-- "A trailer is such a line with every indented, non-blank line directly after it": the same, the first line's length, and the trailer's
 unfoldable pub atStart : List Line → TrailerAtStart
 atStart [] = TrailerAtStart.NoTrailer
 atStart (l ∷ ls) =
     if trailerLine l
-    then TrailerAtStart.Trailer (length (tokenIn l)) (length (tokenIn l) + length (gapIn l) + 1) (length l + length (join (run folds ls)))
+    then TrailerAtStart.Trailer (length (tokenIn l)) (length (tokenIn l) + length (gapIn l) + 1) (length l) (length l + length (join (run folds ls)))
     else TrailerAtStart.NoTrailer

@@ -27,11 +27,12 @@ pub enum TrailerLine {
     NoTrailer,
 }
 
-// Of `trailer_at_start`: the same of the trailer's first line, and the trailer's length.
+// Of `trailer_at_start`: the same of the trailer's first line, that line's length, and the trailer's.
 pub enum TrailerAtStart {
     Trailer {
         token_end: usize,
         value_start: usize,
+        first: usize,
         len: usize,
     },
     NoTrailer,
@@ -185,6 +186,7 @@ pub fn trailer_at_start(cursor: &[u8]) -> TrailerAtStart
     TrailerAtStart::Trailer {
         token_end,
         value_start,
+        first,
         len,
     }
 }

@@ -25,12 +25,14 @@ pub fn next_trailer_from(body: &[u8], at: usize) -> NextTrailer
         if let TrailerAtStart::Trailer {
             token_end,
             value_start,
+            first,
             len,
         } = trailer_at_start(&body[start..]) {
             return NextTrailer::Trailer(Places {
                 start,
                 token_end: start + token_end,
                 value_start: start + value_start,
+                first_end: start + first,
                 end: start + len,
             });
         }

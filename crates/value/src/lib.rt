@@ -2,6 +2,7 @@
 ghost use mathlib.Core.List.{[], _∷_, _++_};
 ghost use mathlib.Core.Path.{_≡_};
 ghost use Prim.Native.Nat.{_+_, _-_, _≤_, _<_, _^_};
+ghost use lib.Dec.{ltb};
 ghost use lib.ListN.{length, take, drop};
 ghost use Rattle.rules.specs.Record.{fitted, writtenFound, writtenOf};
 ghost use Rattle.rules.specs.Trailer.{bySpaces, unfolded, valueIsWritten};
@@ -136,14 +137,16 @@ fn unfold_value(value: &[u8], out: &mut [u8]) -> ValueFound
     unfold_fitting(value, out)
 }
 
-// The value of the raw value from `from` up to `to`: a part of the body, or, unfolded, the front of `out`.
-pub fn read_value(body: &[u8], from: usize, to: usize, out: &mut [u8]) -> ValueFound
+// The value of the raw value from `from` up to `to`, whose first line ends at `first`: a part of the body, or, unfolded, the front of
+// `out`.
+pub fn read_value(body: &[u8], from: usize, first: usize, to: usize, out: &mut [u8]) -> ValueFound
     requires { ⌜ (from ≤ to) × (to ≤ length (now body)) ⌝ }
+    requires { ⌜ valueIsWritten (take (to - from) (drop from (now body))) ≡ ltb first to ⌝ }
     ensures { λ r. ⌜ r ≡ valueFound from (take (to - from) (drop from (now (body .entry)))) (length (now (out .entry))) ⌝ }
     ensures { λ _. ⌜ now (out .exit) ≡ fitted (writtenOf (take (to - from) (drop from (now (body .entry))))) (now (out .entry)) ⌝ }
 {
     let raw = &body[from..to];
-    if is_folded(raw) {
+    if first < to {
         return unfold_value(raw, out);
     }
     let part = trim(raw);

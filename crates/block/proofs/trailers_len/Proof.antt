@@ -36,7 +36,7 @@ enum-known-trailer c = search needs
 
 -- a trailer is ahead
 ahead : (c : tie.After-known-told Inv-loop μ-loop) → let r = c .before .before .before in let l = r .before .before in
-    let s = l .before .before .args .cursor .now in let n = c .before .trailer .given .0 .1 .1 .0 in
+    let s = l .before .before .args .cursor .now in let n = c .before .trailer .given .0 .1 .1 .1 .0 in
     (0 < n) × (l .loop .len + n ≤ length s) × (partLength (drop (l .loop .len) s) ≡ n + partLength (drop (l .loop .len + n) s))
 ahead c =
     let r = c .before .before .before in let l = r .before .before in let s = l .before .before .args .cursor .now in

@@ -1,8 +1,9 @@
 -- `value::read_value` meets its contract. Assumes nothing.
-use mathlib.Core.Path.{sym, _∙_}
+use mathlib.Core.Path.{_∙_}
 use Prim.Native.Nat.{_+_, _-_, _≤_}
 use native.Mathlib.Omega.{arith}
 use borrow.Author.Needs.{needs}
+use borrow.Author.Tests.{le-ltb, lt-ltb}
 use lib.ListN.{length, take, drop, length-drop}
 use lib.Seq.{length-take-le}
 use Rattle.rules.proofs.White.{trim-fits}
@@ -19,12 +20,9 @@ part-raw-start c = search needs
 part-raw-end : tie.Need-part-raw-end
 part-raw-end c = search needs
 
-is-folded-requires : tie.Need-is-folded-requires
-is-folded-requires c κs = search needs
-
--- the start, from where the raw value is known to be folded or not
-abbrev start : tie.After-is-folded → tie.Start
-start f = let raw = f .before in raw .before .before .before
+-- the start, from where the raw value is a part
+abbrev start : tie.After-raw → tie.Start
+start raw = raw .before .before .before
 
 unfold-value-requires : tie.Need-unfold-value-requires
 unfold-value-requires c κs = search needs
@@ -34,10 +32,10 @@ same-length c = search needs
 
 returns : tie.Need-returns
 returns c =
-    let u = c .before .before in let f = u .before .before .before in
-    let a = start f .args in
+    let u = c .before .before in let f = u .before .before in let s = start (f .before) in
+    let a = s .args in
     let raw = take (a .to - a .from) (drop (a .from) (a .body .now)) in
-    let q = sym (f .is-folded .ensures) ∙ u .before .before .if1 .taken in
+    let q = s .pre .1 ∙ lt-ltb _ _ (f .if1 .taken) in
     (u .unfold-value .ensures .0 ∙ value-folded (a .from) raw q (length (a .out .now)), u .unfold-value .ensures .1 ∙ buffer-folded (a .from) raw q (a .out .now))
 
 trim-requires : tie.Need-trim-requires
@@ -61,10 +59,10 @@ add-end c = omega (arith, inside (c .before .before))
 
 returns-2 : tie.Need-returns-2
 returns-2 c =
-    let t = c .before .before in let f = t .before .before in
-    let a = start f .args in
+    let t = c .before .before in let s = start (t .before .before) in
+    let a = s .args in
     let raw = take (a .to - a .from) (drop (a .from) (a .body .now)) in
-    let q = sym (f .is-folded .ensures) ∙ t .before .if1 .left in
+    let q = s .pre .1 ∙ le-ltb _ _ (t .before .if1 .left) in
     (rw (t .trim .ensures .0, t .trim .ensures .1) (value-part (a .from) raw q (length (a .out .now))), buffer-part (a .from) raw q (a .out .now))
 
 pub read-value-spec : {M : Type 1} → statement M
@@ -74,7 +72,6 @@ read-value-spec =
     sub-raw
     part-raw-start
     part-raw-end
-    is-folded-requires
     unfold-value-requires
     same-length
     returns

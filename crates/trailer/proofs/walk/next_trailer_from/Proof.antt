@@ -47,24 +47,27 @@ head r = r .before .before .before
 -- the trailer that was found, and its places
 found : (c : tie.After-known-told Inv-loop μ-loop) → let l = head (c .before .before .before) in
     atStart (lines (take (length (l .before .before .args .body .now) - l .loop .start) (drop (l .loop .start) (l .before .before .args .body .now))))
-    ≡ TrailerAtStart.Trailer (c .before .token-end .given .0 .0) (c .before .token-end .given .0 .1 .0) (c .before .token-end .given .0 .1 .1 .0)
+    ≡ TrailerAtStart.Trailer (c .before .token-end .given .0 .0) (c .before .token-end .given .0 .1 .0) (c .before .token-end .given .0 .1 .1 .0) (c .before .token-end .given .0 .1 .1 .1 .0)
 found c = sym (c .before .before .before .trailer-at-start .ensures) ∙ c .before .token-end .given .1
 
 places : (c : tie.After-known-told Inv-loop μ-loop) → let l = head (c .before .before .before) in
     let t = c .before .token-end .given .0 in
-    (t .0 < t .1 .0) × (t .1 .0 ≤ t .1 .1 .0) × (l .loop .start + t .1 .1 .0 ≤ length (l .before .before .args .body .now))
+    (t .0 < t .1 .0) × (t .1 .0 ≤ t .1 .1 .0) × (t .1 .1 .0 ≤ t .1 .1 .1 .0) × (l .loop .start + t .1 .1 .1 .0 ≤ length (l .before .before .args .body .now))
 places c =
     let l = head (c .before .before .before) in
     found-within (l .before .before .args .body .now) (l .loop .start) (omega arith) (found c)
-
-add-t13 : tie.Need-add-t13 Inv-loop μ-loop
-add-t13 c = omega (arith, places c)
 
 add-t14 : tie.Need-add-t14 Inv-loop μ-loop
 add-t14 c = omega (arith, places c)
 
 add-t15 : tie.Need-add-t15 Inv-loop μ-loop
 add-t15 c = omega (arith, places c)
+
+add-t16 : tie.Need-add-t16 Inv-loop μ-loop
+add-t16 c = omega (arith, places c)
+
+add-t17 : tie.Need-add-t17 Inv-loop μ-loop
+add-t17 c = omega (arith, places c)
 
 returns : tie.Need-returns Inv-loop μ-loop
 returns c =
@@ -123,9 +126,10 @@ next-trailer-from-spec =
     part-trailer-at-start-end
     trailer-at-start-requires
     enum-known-token-end
-    add-t13
     add-t14
     add-t15
+    add-t16
+    add-t17
     returns
     enum-told
     sub-line-len
