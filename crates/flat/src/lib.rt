@@ -16,6 +16,7 @@ use numbers::ending_number;
 use planning::Scope;
 use planning::begin;
 use planning::list_step;
+use planning::with_counts;
 use rules::Cursor;
 use rules::TrailerRef;
 use rules::Value;
@@ -80,17 +81,21 @@ fn list(input: &[u8], scope: Scope, table: &mut [usize], out: &mut [u8]) -> List
     ensures { λ _. ⌜ now (table .exit) ≡ flatTable (now (input .entry)) scope (length (now (out .entry))) (now (table .entry)) ⌝ }
     ensures { λ _. ⌜ now (out .exit) ≡ scopeBuffer (now (input .entry)) scope (length (now (table .entry)) / width) (now (out .entry)) ⌝ }
 {
-    let mut spot = begin(input, scope, table.len() / WIDTH, out.len());
+    let begun = begin(input, scope, table.len() / WIDTH, out.len());
+    let told = begun.told;
+    let mut spot = begun.spot;
     let mut at: usize = 0;
-    while spot.more {
-        let step = list_step(input, spot, out);
+    while spot.more > 0 {
+        let step = list_step(input, spot, told, out);
         let found = step.found;
         put_record(found, table, at);
         let next = step.next;
         spot = next;
         at += WIDTH;
     }
-    spot.outcome
+    let outcome = begun.outcome;
+    let done = spot.done;
+    with_counts(outcome, done)
 }
 
 // All trailers from the cursor on.

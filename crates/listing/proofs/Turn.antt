@@ -25,6 +25,7 @@ use Rattle.body.specs.Body.{firstStep, firstWrites, stepAnswer, stepBuffer}
 use Rattle.listing.specs.Answers.{listingSays}
 use Rattle.listing.specs.Listing.{recordsOf, shiftedRecord, taken, tell, valuesOf}
 use Rattle.listing.specs.Turns.{Begun, Ready, Starts, aheadOf, counts, laid, leftAt, lists, moreOf, onto, readUpTo, refuses, turnOf, withCounts}
+use Rattle.listing.specs.declared.Beginning.{Beginning}
 use Rattle.listing.specs.declared.Counts.{Counts}
 use Rattle.listing.specs.declared.Listing.{Listing}
 use Rattle.listing.specs.declared.Spot.{Spot}
@@ -105,15 +106,6 @@ laid-cons cells told s c used t ts = refl
 same-counts : {a b n m : ℕ} → a ≡ b → n ≡ m → counts a n ≡ counts b m
 same-counts p q = rw (p, q)
 
-recounted : (o : Listing) (c d : Counts) → withCounts (withCounts o c) d ≡ withCounts o d
-recounted (Listing.Listed k) c d = refl
-recounted (Listing.FootListed k looked) c d = refl
-recounted Listing.TooLong c d = refl
-recounted Listing.BadPlace c d = refl
-recounted Listing.MoreBytes c d = refl
-recounted (Listing.ShortTable k) c d = refl
-recounted (Listing.NoRoom k) c d = refl
-
 refusal-stays : (o : Listing) (c : Counts) → eqb (number (listingSays o)) 0 ≡ false → withCounts o c ≡ o
 refusal-stays (Listing.Listed k) c e = absurd (false≢true (sym e))
 refusal-stays (Listing.FootListed k looked) c e = absurd (false≢true (sym e))
@@ -130,8 +122,8 @@ pub record Split (ts : List Trailer) : Type 0 where
   pub behind : List Trailer
   pub is : ts ≡ here ∷ behind
 
-pub split : (ts : List Trailer) → moreOf ts ≡ true → Split ts
-split [] h = absurd (false≢true h)
+pub split : (ts : List Trailer) → 0 < moreOf ts → Split ts
+split [] h = absurd (omega (arith, h))
 split (t ∷ ts) h = record { here = t; behind = ts; is = refl }
 
 -- where a trailer is ahead: these are left of the walk, and their values have room
@@ -143,31 +135,30 @@ pub record Ahead (input : List ℕ) (lz : ℕ) (p : Spot) (todo : List Trailer) 
   pub few : p .done .records ≤ p .cursor .at
   pub room : p .done .bytes + length (valuesOf todo) ≤ lz
 
--- What holds between turns: the next record goes to `at`, the listing stands at p, the table is l and the buffer z. The trailers of `todo`
--- are left; where they are stored the table is T, the buffer is Z, and this is said.
-pub record Turn {A : Type 0} (cells : TrailerRef → List A) (input : List ℕ) (said : Said) (lt lz : ℕ) (T : List A) (Z : List ℕ) (at : ℕ) (p : Spot) (l : List A) (z : List ℕ) : Type 0 where
+-- What holds between turns of a listing that begins at b: the next record goes to `at`, the listing stands at p, the table is l and the
+-- buffer z. The trailers of `todo` are left; where they are stored the table is T, the buffer is Z, and this is said.
+pub record Turn {A : Type 0} (cells : TrailerRef → List A) (input : List ℕ) (b : Beginning) (said : Said) (lt lz : ℕ) (T : List A) (Z : List ℕ) (at : ℕ) (p : Spot) (l : List A) (z : List ℕ) : Type 0 where
   pub todo : List Trailer
   pub more-is : p .more ≡ moreOf todo
-  pub ahead : p .more ≡ true → Ahead input lz p todo
+  pub ahead : 0 < p .more → Ahead input lz p todo
   pub long : length l ≡ lt
   pub wide : length z ≡ lz
-  pub rooms : at + length (toldCells cells (p .told) (readUpTo p input) (p .cursor) (p .done .bytes) todo) ≤ lt
-  pub table : onto at (toldCells cells (p .told) (readUpTo p input) (p .cursor) (p .done .bytes) todo) l ≡ T
+  pub rooms : at + length (toldCells cells (b .told) (readUpTo p input) (p .cursor) (p .done .bytes) todo) ≤ lt
+  pub table : onto at (toldCells cells (b .told) (readUpTo p input) (p .cursor) (p .done .bytes) todo) l ≡ T
   pub buffer : onto (p .done .bytes) (valuesOf todo) z ≡ Z
-  pub so-far : withCounts (p .outcome) (p .done) ≡ p .outcome
-  pub at-last : listingSays (withCounts (p .outcome) (counts (p .done .records + length todo) (p .done .bytes + length (valuesOf todo)))) ≡ said
+  pub at-last : listingSays (withCounts (b .outcome) (counts (p .done .records + length todo) (p .done .bytes + length (valuesOf todo)))) ≡ said
 
-module _ {A : Type 0} {cells : TrailerRef → List A} {input : List ℕ} {said : Said} {lt lz : ℕ} {T : List A} {Z : List ℕ} {at : ℕ} {p : Spot} {l : List A} {z : List ℕ}
-    (t : Turn cells input said lt lz T Z at p l z) where
+module _ {A : Type 0} {cells : TrailerRef → List A} {input : List ℕ} {b : Beginning} {said : Said} {lt lz : ℕ} {T : List A} {Z : List ℕ} {at : ℕ} {p : Spot} {l : List A} {z : List ℕ}
+    (t : Turn cells input b said lt lz T Z at p l z) where
   abbrev s : List ℕ
   s = readUpTo p input
 
-  module _ (h : p .more ≡ true) where
+  module _ (h : 0 < p .more) where
     here : Ahead input lz p (t .todo)
     here = t .ahead h
 
     first : Split (t .todo)
-    first = split (t .todo) (sym (t .more-is) ∙ h)
+    first = split (t .todo) (omega (arith, t .more-is, h))
 
     abbrev u : Trailer
     u = first .here
@@ -180,10 +171,10 @@ module _ {A : Type 0} {cells : TrailerRef → List A} {input : List ℕ} {said :
     written = writtenOf (rawValue u)
 
     abbrev cell : List A
-    cell = cells (tell (p .told) (shiftedRecord (p .done .bytes) (recordOf (movedOn s (p .cursor) (placeOf u) .line) u)))
+    cell = cells (tell (b .told) (shiftedRecord (p .done .bytes) (recordOf (movedOn s (p .cursor) (placeOf u) .line) u)))
 
     abbrev later : List A
-    later = toldCells cells (p .told) s (movedOn s (p .cursor) (endOf u)) (p .done .bytes + length written) us
+    later = toldCells cells (b .told) s (movedOn s (p .cursor) (endOf u)) (p .done .bytes + length written) us
 
     walked : leftAt p input ≡ u ∷ us
     walked = here .left ∙ first .is
@@ -191,8 +182,8 @@ module _ {A : Type 0} {cells : TrailerRef → List A} {input : List ℕ} {said :
     values-are : valuesOf (t .todo) ≡ written ++ valuesOf us
     values-are = ap valuesOf (first .is) ∙ values-cons u us
 
-    cells-are : toldCells cells (p .told) s (p .cursor) (p .done .bytes) (t .todo) ≡ cell ++ later
-    cells-are = ap (λ (ts : List Trailer). toldCells cells (p .told) s (p .cursor) (p .done .bytes) ts) (first .is) ∙ laid-cons cells (p .told) s (p .cursor) (p .done .bytes) u us
+    cells-are : toldCells cells (b .told) s (p .cursor) (p .done .bytes) (t .todo) ≡ cell ++ later
+    cells-are = ap (λ (ts : List Trailer). toldCells cells (b .told) s (p .cursor) (p .done .bytes) ts) (first .is) ∙ laid-cons cells (b .told) s (p .cursor) (p .done .bytes) u us
 
     fits : p .done .bytes + length written + length (valuesOf us) ≤ lz
     fits = omega (arith, here .room, ap length values-are ∙ length-append written (valuesOf us))
@@ -211,8 +202,8 @@ module _ {A : Type 0} {cells : TrailerRef → List A} {input : List ℕ} {said :
       fits = rw walked (omega (arith, t .wide, fits));
     }
 
-    module _ (r : Step) (e : r ≡ turnOf p s (leftAt p input)) where
-      answer : r ≡ turnOf p s (u ∷ us)
+    module _ (r : Step) (e : r ≡ turnOf p (b .told) s (leftAt p input)) where
+      answer : r ≡ turnOf p (b .told) s (u ∷ us)
       answer = rw walked at e
 
       -- the walk moves on, inside the input
@@ -226,7 +217,7 @@ module _ {A : Type 0} {cells : TrailerRef → List A} {input : List ℕ} {said :
       fits-next = rw answer (omega (arith, t .long, fits-table))
 
       pub next : (j : ℕ) (ls : List A) (zs : List ℕ) → j ≡ at + length (cells (r .found)) → ls ≡ onto at (cells (r .found)) l
-          → zs ≡ onto (p .done .bytes) (firstWrites (leftAt p input)) z → Turn cells input said lt lz T Z j (r .next) ls zs
+          → zs ≡ onto (p .done .bytes) (firstWrites (leftAt p input)) z → Turn cells input b said lt lz T Z j (r .next) ls zs
       next j ls zs at-is f g =
           let g′ : zs ≡ onto (p .done .bytes) written z = rw walked at g in
           let f′ : ls ≡ onto at cell l = rw answer at f in
@@ -253,18 +244,17 @@ module _ {A : Type 0} {cells : TrailerRef → List A} {input : List ℕ} {said :
             rooms = rw j′ fits-table;
             table = rw (j′, f′) (sym (onto-append at cell later l (omega (arith, t .long, fits-table))) ∙ rw cells-are at (t .table));
             buffer = rw g′ (sym (onto-append (p .done .bytes) written (valuesOf us) z (omega (arith, t .wide, fits))) ∙ rw values-are at (t .buffer));
-            so-far = recounted (p .outcome) _ _;
-            at-last = ap listingSays (recounted (p .outcome) _ _ ∙ ap (withCounts (p .outcome)) (same-counts n m)) ∙ t .at-last;
+            at-last = ap (λ (c : Counts). listingSays (withCounts (b .outcome) c)) (same-counts n m) ∙ t .at-last;
           })
 
   -- the end
-  module _ (h : p .more ≡ false) where
+  module _ (h : p .more ≤ 0) where
     none-left : t .todo ≡ []
-    none-left = by (t .todo) (sym (t .more-is) ∙ h)
+    none-left = by (t .todo) (omega (arith, t .more-is, h))
       where
-        by : (ts : List Trailer) → moreOf ts ≡ false → ts ≡ []
+        by : (ts : List Trailer) → moreOf ts ≤ 0 → ts ≡ []
         by [] e = refl
-        by (u ∷ ts) e = absurd (false≢true (sym e))
+        by (u ∷ ts) e = absurd (omega (arith, e))
 
     pub table-is : l ≡ T
     table-is = sym (onto-nil at l) ∙ rw (none-left, none-laid) at (t .table)
@@ -272,116 +262,117 @@ module _ {A : Type 0} {cells : TrailerRef → List A} {input : List ℕ} {said :
     pub buffer-is : z ≡ Z
     buffer-is = sym (onto-nil (p .done .bytes) z) ∙ rw (none-left, no-values) at (t .buffer)
 
-    pub said-is : listingSays (p .outcome) ≡ said
+    pub said-is : listingSays (withCounts (b .outcome) (p .done)) ≡ said
     said-is =
         let n : p .done .records + length (t .todo) ≡ p .done .records = omega (arith, ap length none-left) in
         let m : p .done .bytes + length (valuesOf (t .todo)) ≡ p .done .bytes = omega (arith, ap length (ap valuesOf none-left ∙ no-values)) in
-        ap listingSays (sym (t .so-far) ∙ sym (ap (withCounts (p .outcome)) (same-counts n m))) ∙ t .at-last
+        ap (λ (c : Counts). listingSays (withCounts (b .outcome) c)) (sym (same-counts n m)) ∙ t .at-last
 
--- what is left to be listed from a spot on, its cells, its values, and what is said then
-abbrev pub todoAt : Spot → List ℕ → List Trailer
-todoAt p input = if p .more then leftAt p input else []
+-- what is left to be listed from a beginning on, its cells, its values, and what is said then
+abbrev pub todoAt : Beginning → List ℕ → List Trailer
+todoAt b input = if eqb (b .spot .more) 0 then [] else leftAt (b .spot) input
 
-abbrev pub cellsAt : {A : Type 0} → (TrailerRef → List A) → Spot → List ℕ → List A
-cellsAt cells p input = toldCells cells (p .told) (readUpTo p input) (p .cursor) (p .done .bytes) (todoAt p input)
+abbrev pub cellsAt : {A : Type 0} → (TrailerRef → List A) → Beginning → List ℕ → List A
+cellsAt cells b input = toldCells cells (b .told) (readUpTo (b .spot) input) (b .spot .cursor) (b .spot .done .bytes) (todoAt b input)
 
-abbrev pub valuesAt : Spot → List ℕ → List ℕ
-valuesAt p input = valuesOf (todoAt p input)
+abbrev pub valuesAt : Beginning → List ℕ → List ℕ
+valuesAt b input = valuesOf (todoAt b input)
 
-abbrev pub saidAt : Spot → List ℕ → Said
-saidAt p input = listingSays (withCounts (p .outcome) (counts (p .done .records + length (todoAt p input)) (p .done .bytes + length (valuesAt p input))))
+abbrev pub saidAt : Beginning → List ℕ → Said
+saidAt b input = listingSays (withCounts (b .outcome) (counts (b .spot .done .records + length (todoAt b input)) (b .spot .done .bytes + length (valuesAt b input))))
 
 -- the start: nothing is to do, or all of the walk, for which there is room
-module _ (input : List ℕ) (p : Spot) where
-  refused-todo : p .more ≡ false → todoAt p input ≡ []
+module _ (input : List ℕ) (b : Beginning) where
+  abbrev p : Spot
+  p = b .spot
+
+  refused-todo : p .more ≡ 0 → todoAt b input ≡ []
   refused-todo m = rw m
 
-  refused-says : {said : Said} → listingSays (p .outcome) ≡ said → eqb (number said) 0 ≡ false → saidAt p input ≡ said
-  refused-says o e = ap listingSays (refusal-stays (p .outcome) _ (rw o e)) ∙ o
+  refused-says : {said : Said} → listingSays (b .outcome) ≡ said → eqb (number said) 0 ≡ false → saidAt b input ≡ said
+  refused-says o e = ap listingSays (refusal-stays (b .outcome) _ (rw o e)) ∙ o
 
-  module _ {s : List ℕ} {said : Said} {records : List TrailerRef} {values : List ℕ} {rooms room : ℕ} (front : take (length s) input ≡ s) (b : Starts s said records values rooms room p) where
+  module _ {s : List ℕ} {said : Said} {records : List TrailerRef} {values : List ℕ} {rooms room : ℕ} (front : take (length s) input ≡ s) (g : Starts s said records values rooms room b) where
     abbrev all : List Trailer
     all = walkFrom s (p .cursor .at)
 
     same : readUpTo p input ≡ s
-    same = ap (λ (x : Spot). take (x .end) input) (b .stands) ∙ front
+    same = ap (λ (x : Spot). take (x .end) input) (g .stands) ∙ front
 
     none : p .done ≡ counts 0 0
-    none = ap (λ (x : Spot). x .done) (b .stands)
+    none = ap (λ (x : Spot). x .done) (g .stands)
 
-    todo-is : todoAt p input ≡ all
-    todo-is = rw (ap (λ (x : Spot). x .more) (b .stands), same) (by all)
+    todo-is : todoAt b input ≡ all
+    todo-is = rw (ap (λ (x : Spot). x .more) (g .stands), same) (by all)
       where
-        by : (ts : List Trailer) → (if moreOf ts then ts else []) ≡ ts
+        by : (ts : List Trailer) → (if eqb (moreOf ts) 0 then [] else ts) ≡ ts
         by [] = refl
         by (t ∷ ts) = refl
 
-    cells-all : {A : Type 0} (cells : TrailerRef → List A) → cellsAt cells p input ≡ laid cells records
-    cells-all cells = rw (todo-is, same, none) (ap (laid cells) (b .records-are))
+    cells-all : {A : Type 0} (cells : TrailerRef → List A) → cellsAt cells b input ≡ laid cells records
+    cells-all cells = rw (todo-is, same, none) (ap (laid cells) (g .records-are))
 
-    values-all : valuesAt p input ≡ values
-    values-all = ap valuesOf todo-is ∙ b .values-are
+    values-all : valuesAt b input ≡ values
+    values-all = ap valuesOf todo-is ∙ g .values-are
 
-    said-all : saidAt p input ≡ said
+    said-all : saidAt b input ≡ said
     said-all =
-        let size : length (todoAt p input) ≡ length records = ap length todo-is ∙ sym (length-records s (p .cursor) 0 all) ∙ sym (length-map (recordsOf s (p .cursor) 0 all) (tell (p .told))) ∙ ap length (b .records-are) in
-        let n : p .done .records + length (todoAt p input) ≡ length records = omega (arith, size, ap (λ (c : Counts). c .records) none) in
-        let m : p .done .bytes + length (valuesAt p input) ≡ length values = omega (arith, ap length values-all, ap (λ (c : Counts). c .bytes) none) in
-        ap (λ (c : Counts). listingSays (withCounts (p .outcome) c)) (same-counts n m) ∙ b .at-last
+        let size : length (todoAt b input) ≡ length records = ap length todo-is ∙ sym (length-records s (p .cursor) 0 all) ∙ sym (length-map (recordsOf s (p .cursor) 0 all) (tell (b .told))) ∙ ap length (g .records-are) in
+        let n : p .done .records + length (todoAt b input) ≡ length records = omega (arith, size, ap (λ (c : Counts). c .records) none) in
+        let m : p .done .bytes + length (valuesAt b input) ≡ length values = omega (arith, ap length values-all, ap (λ (c : Counts). c .bytes) none) in
+        ap (λ (c : Counts). listingSays (withCounts (b .outcome) c)) (same-counts n m) ∙ g .at-last
 
   -- what is said, and what the table and the buffer hold then
-  pub begun-says : {said : Said} {records : List TrailerRef} {values : List ℕ} {rooms room : ℕ} → Begun input said records values rooms room p → saidAt p input ≡ said
+  pub begun-says : {said : Said} {records : List TrailerRef} {values : List ℕ} {rooms room : ℕ} → Begun input said records values rooms room b → saidAt b input ≡ said
   begun-says (refuses m o e) = refused-says o e
-  begun-says (lists s w front b) = said-all front b
+  begun-says (lists s w front g) = said-all front g
 
-  pub begun-table : {said : Said} {records : List TrailerRef} {values : List ℕ} {rooms room : ℕ} {A : Type 0} (cells : TrailerRef → List A) (ys : List A) → Begun input said records values rooms room p
-      → afterwards (saidAt p input) (cellsAt cells p input) ys ≡ afterwards said (laid cells records) ys
+  pub begun-table : {said : Said} {records : List TrailerRef} {values : List ℕ} {rooms room : ℕ} {A : Type 0} (cells : TrailerRef → List A) (ys : List A) → Begun input said records values rooms room b
+      → afterwards (saidAt b input) (cellsAt cells b input) ys ≡ afterwards said (laid cells records) ys
   begun-table cells ys (refuses m o e) = rw (refused-says o e, e)
-  begun-table cells ys (lists s w front b) = rw (said-all front b, cells-all front b cells)
+  begun-table cells ys (lists s w front g) = rw (said-all front g, cells-all front g cells)
 
-  pub begun-buffer : {said : Said} {records : List TrailerRef} {values : List ℕ} {rooms room : ℕ} (os : List ℕ) → Begun input said records values rooms room p
-      → afterwards (saidAt p input) (valuesAt p input) os ≡ afterwards said values os
+  pub begun-buffer : {said : Said} {records : List TrailerRef} {values : List ℕ} {rooms room : ℕ} (os : List ℕ) → Begun input said records values rooms room b
+      → afterwards (saidAt b input) (valuesAt b input) os ≡ afterwards said values os
   begun-buffer os (refuses m o e) = rw (refused-says o e, e)
-  begun-buffer os (lists s w front b) = rw (said-all front b, values-all front b)
+  begun-buffer os (lists s w front g) = rw (said-all front g, values-all front g)
 
   pub start : {said : Said} {records : List TrailerRef} {values : List ℕ} {rooms room : ℕ} {A : Type 0} (cells : TrailerRef → List A) (ys : List A) (os : List ℕ) → room ≡ length os → (length records ≤ rooms → length (laid cells records) ≤ length ys)
-      → Begun input said records values rooms room p
-      → Turn cells input (saidAt p input) (length ys) (length os) (afterwards (saidAt p input) (cellsAt cells p input) ys) (afterwards (saidAt p input) (valuesAt p input) os) 0 p ys os
+      → Begun input said records values rooms room b
+      → Turn cells input b (saidAt b input) (length ys) (length os) (afterwards (saidAt b input) (cellsAt cells b input) ys) (afterwards (saidAt b input) (valuesAt b input) os) 0 p ys os
   start cells ys os wide enough (refuses m o e) = record {
-    todo = todoAt p input;
+    todo = todoAt b input;
     more-is = rw m refl;
-    ahead = λ h. absurd (false≢true (sym m ∙ h));
+    ahead = λ h. absurd (omega (arith, m, h));
     long = refl;
     wide = refl;
-    rooms = rw (refused-todo m, none-laid cells (p .told) (readUpTo p input) (p .cursor) (p .done .bytes)) (omega arith);
-    table = rw (refused-says o e, e, refused-todo m, none-laid cells (p .told) (readUpTo p input) (p .cursor) (p .done .bytes)) (onto-nil 0 ys);
+    rooms = rw (refused-todo m, none-laid cells (b .told) (readUpTo p input) (p .cursor) (p .done .bytes)) (omega arith);
+    table = rw (refused-says o e, e, refused-todo m, none-laid cells (b .told) (readUpTo p input) (p .cursor) (p .done .bytes)) (onto-nil 0 ys);
     buffer = rw (refused-says o e, e, refused-todo m, no-values) (onto-nil (p .done .bytes) os);
-    so-far = refusal-stays (p .outcome) (p .done) (rw o e);
     at-last = refl;
   }
-  start cells ys os wide enough (lists s w front b) = record {
-    todo = todoAt p input;
-    more-is = ap (λ (x : Spot). x .more) (b .stands) ∙ ap moreOf (sym (todo-is front b));
+  start cells ys os wide enough (lists s w front g) = record {
+    todo = todoAt b input;
+    more-is = ap (λ (x : Spot). x .more) (g .stands) ∙ ap moreOf (sym (todo-is front g));
     ahead = λ _. record {
-      within = omega (arith, ap (λ (x : Spot). x .end) (b .stands));
-      placed = rw (same front b) (b .placed);
-      left = ap (λ (x : List ℕ). walkFrom x (p .cursor .at)) (same front b) ∙ sym (todo-is front b);
-      is = ap (λ (x : Spot). x .ahead) (b .stands) ∙ ap aheadOf (sym (todo-is front b));
-      few = omega (arith, ap (λ (c : Counts). c .records) (none front b));
-      room = omega (arith, wide, b .bytes-fit, ap length (values-all front b), ap (λ (c : Counts). c .bytes) (none front b));
+      within = omega (arith, ap (λ (x : Spot). x .end) (g .stands));
+      placed = rw (same front g) (g .placed);
+      left = ap (λ (x : List ℕ). walkFrom x (p .cursor .at)) (same front g) ∙ sym (todo-is front g);
+      is = ap (λ (x : Spot). x .ahead) (g .stands) ∙ ap aheadOf (sym (todo-is front g));
+      few = omega (arith, ap (λ (c : Counts). c .records) (none front g));
+      room = omega (arith, wide, g .bytes-fit, ap length (values-all front g), ap (λ (c : Counts). c .bytes) (none front g));
     };
     long = refl;
     wide = refl;
-    rooms = rw (cells-all front b cells) (omega (arith, enough (b .records-fit)));
-    table = rw (said-all front b, b .fine) (onto-front (cellsAt cells p input) ys);
-    buffer = rw (said-all front b, b .fine, none front b) (onto-front (valuesAt p input) os);
-    so-far = rw (none front b) (b .fresh);
+    rooms = rw (cells-all front g cells) (omega (arith, enough (g .records-fit)));
+    table = rw (said-all front g, g .fine) (onto-front (cellsAt cells b input) ys);
+    buffer = rw (said-all front g, g .fine, none front g) (onto-front (valuesAt b input) os);
     at-last = refl;
   }
 
 -- a listing that begins in a text at the input's front begins in the input
-pub begun-front : {text input : List ℕ} {said : Said} {records : List TrailerRef} {values : List ℕ} {rooms room : ℕ} {p : Spot}
-    → length text ≤ length input → take (length text) input ≡ text → Begun text said records values rooms room p → Begun input said records values rooms room p
+pub begun-front : {text input : List ℕ} {said : Said} {records : List TrailerRef} {values : List ℕ} {rooms room : ℕ} {b : Beginning}
+    → length text ≤ length input → take (length text) input ≡ text → Begun text said records values rooms room b → Begun input said records values rooms room b
 begun-front w front (refuses m o e) = refuses m o e
-begun-front {text} {input} w front (lists s v q b) =
-    lists s (omega arith) (sym (take-take (length s) (length text) input v) ∙ ap (take (length s)) front ∙ q) b
+begun-front {text} {input} w front (lists s v q g) =
+    lists s (omega arith) (sym (take-take (length s) (length text) input v) ∙ ap (take (length s)) front ∙ q) g

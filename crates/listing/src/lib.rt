@@ -29,14 +29,20 @@ pub struct Told {
     pub lines: usize,
 }
 
-// Where a listing stands: how far the input is read, the walk's cursor, whether a trailer is ahead and where, what is written so far,
-// the answer where nothing more is, and how the records are told.
+// Where a listing stands: how far the input is read, the walk's cursor, 1 where a trailer is ahead and 0 where none is, its places, and
+// what is written so far. It has numbers alone, since each turn copies it: the padding of a bool or an enum would make that slow.
 pub struct Spot {
     pub end: usize,
     pub cursor: Cursor,
-    pub more: bool,
+    pub more: usize,
     pub ahead: Places,
     pub done: Counts,
+}
+
+// Where a listing begins: the spot, what it answers, and how its records are told. Where it is not refused, the counts of the answer are
+// put in at the end.
+pub struct Beginning {
+    pub spot: Spot,
     pub outcome: Listing,
     pub told: Told,
 }

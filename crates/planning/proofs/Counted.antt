@@ -28,15 +28,13 @@ use Rattle.listing.proofs.Turn.{all-kept}
 use Rattle.listing.specs.Listing.{valuesOf}
 use Rattle.listing.specs.Turns.{standing}
 use Rattle.listing.specs.declared.Counts.{Counts}
-use Rattle.listing.specs.declared.Listing.{Listing}
-use Rattle.listing.specs.declared.Told.{Told}
 use Rattle.planning.specs.Planning.{from}
 
 -- where a listing stands that has found the next trailer
-pub found-standing : (end : ℕ) (c : Cursor) (done : Counts) (outcome : Listing) (told : Told) (ts : List Trailer) {at : Places} → nextOf ts ≡ NextTrailer.Trailer at
-    → record { end = end; cursor = c; more = true; ahead = at; done = done; outcome = outcome; told = told } ≡ standing end c done outcome told ts
-found-standing end c done outcome told [] q = let z : _≡_ {A = ℕ} 0 1 = cc in absurd (omega arith)
-found-standing end c done outcome told (t ∷ ts) {at} q = let e : at ≡ placesOf t = cc in rw e
+pub found-standing : (end : ℕ) (c : Cursor) (done : Counts) (ts : List Trailer) {at : Places} → nextOf ts ≡ NextTrailer.Trailer at
+    → record { end = end; cursor = c; more = 1; ahead = at; done = done } ≡ standing end c done ts
+found-standing end c done [] q = let z : _≡_ {A = ℕ} 0 1 = cc in absurd (omega arith)
+found-standing end c done (t ∷ ts) {at} q = let e : at ≡ placesOf t = cc in rw e
 
 -- no more is written than the raw value has
 written-short : (raw : List ℕ) → length (writtenOf raw) ≤ length raw

@@ -25,13 +25,13 @@ use Rattle.listing.proofs.Turn.{begun-front, length-records}
 use Rattle.listing.specs.Answers.{listingSays}
 use Rattle.planning.specs.Scopes.{scopeAnswer, scopeRecords, scopeValues}
 use Rattle.listing.specs.Listing.{fromEnd, fromFront, recordsFrom, tell, valuesFrom}
-use Rattle.listing.specs.Turns.{Begun, counts, lists, refuses, standing, withCounts}
+use Rattle.listing.specs.Turns.{Begun, counts, lists, refuses, withCounts}
+use Rattle.listing.specs.declared.Beginning.{Beginning}
 use Rattle.listing.specs.declared.Counts.{Counts}
 use Rattle.listing.specs.declared.Listing.{Listing}
 use Rattle.planning.specs.declared.Scope.{Scope}
-use Rattle.listing.specs.declared.Spot.{Spot}
 use Rattle.listing.specs.declared.Told.{Told}
-use Rattle.planning.specs.Planning.{countsAt, refusing, settledSays}
+use Rattle.planning.specs.Planning.{beginning, countsAt, refusing, settledSays}
 
 pub refused : {input : List ℕ} {said : Said} {records : List TrailerRef} {values : List ℕ} {rooms room : ℕ} (outcome : Listing)
     → listingSays outcome ≡ said → eqb (number (listingSays outcome)) 0 ≡ false → Begun input said records values rooms room (refusing outcome)
@@ -47,8 +47,8 @@ same-number (Listing.ShortTable k) c = refl
 same-number (Listing.NoRoom k) c = refl
 
 module _ (text : List ℕ) (c : Cursor) (outcome : Listing) (told : Told) (rooms room : ℕ) where
-  abbrev Settles : Spot → Type 0
-  Settles p = Begun text (settledSays text c outcome rooms room) (map (tell told) (recordsFrom text c)) (valuesFrom text c) rooms room p
+  abbrev Settles : Beginning → Type 0
+  Settles b = Begun text (settledSays text c outcome rooms room) (map (tell told) (recordsFrom text c)) (valuesFrom text c) rooms room b
 
   told-count : length (map (tell told) (recordsFrom text c)) ≡ length (recordsFrom text c)
   told-count = length-map (recordsFrom text c) (tell told)
@@ -69,10 +69,10 @@ module _ (text : List ℕ) (c : Cursor) (outcome : Listing) (told : Told) (rooms
     pub no-room : k .records ≤ rooms → room < k .bytes → Settles (refusing (Listing.NoRoom k))
     no-room h r = refused (Listing.NoRoom k) (rw (records-are, bytes-are, le-ltb rooms (k .records) h, lt-ltb room (k .bytes) r)) refl
 
-  pub all-fit : cursorFits c text ≡ true → withCounts outcome (counts 0 0) ≡ outcome → eqb (number (listingSays outcome)) 0 ≡ true
+  pub all-fit : cursorFits c text ≡ true → eqb (number (listingSays outcome)) 0 ≡ true
       → length (walkFrom text (c .at)) ≤ rooms → length (valuesFrom text c) ≤ room
-      → Settles (standing (length text) c (counts 0 0) outcome told (walkFrom text (c .at)))
-  all-fit placed fresh fine h r =
+      → Settles (beginning text c outcome told)
+  all-fit placed fine h r =
       let few = le-ltb rooms (length (recordsFrom text c)) (omega (arith, count-is, h)) in
       let fits = le-ltb room (length (valuesFrom text c)) r in
       lists text (omega arith) (take-length text) (record {
@@ -82,7 +82,6 @@ module _ (text : List ℕ) (c : Cursor) (outcome : Listing) (told : Told) (rooms
         values-are = refl;
         records-fit = omega (arith, told-count, count-is, h);
         bytes-fit = r;
-        fresh = fresh;
         at-last = rw (told-count, few, fits);
         fine = rw (few, fits) (ap (λ (n : ℕ). eqb n 0) (same-number outcome (counts (length (recordsFrom text c)) (length (valuesFrom text c)))) ∙ fine);
       })
@@ -92,12 +91,12 @@ told-front : (rs : List TrailerRef) → map (tell fromFront) rs ≡ rs
 told-front [] = refl
 told-front (r ∷ rs) = ap (λ (xs : List TrailerRef). r ∷ xs) (told-front rs)
 
-pub begun-plain : {text : List ℕ} {said : Said} {records : List TrailerRef} {values : List ℕ} {rooms room : ℕ} {p : Spot}
+pub begun-plain : {text : List ℕ} {said : Said} {records : List TrailerRef} {values : List ℕ} {rooms room : ℕ} {p : Beginning}
     → Begun text said (map (tell fromFront) records) values rooms room p → Begun text said records values rooms room p
 begun-plain {records = records} b = rw (told-front records) at b
 
 -- the listing of a message, from that of the text that is read of it
-pub message-begun : (message : List ℕ) (reading : Reading) (rooms room : ℕ) {end : ℕ} {c : Cursor} {p : Spot} → end ≡ length (read reading message)
+pub message-begun : (message : List ℕ) (reading : Reading) (rooms room : ℕ) {end : ℕ} {c : Cursor} {p : Beginning} → end ≡ length (read reading message)
     → length message ≤ limit → (c ≡ walkStart (take end message)) × (cursorFits c (take end message) ≡ true)
     → Begun (take end message) (settledSays (take end message) c (Listing.Listed (counts 0 0)) rooms room) (recordsFrom (take end message) c) (valuesFrom (take end message) c) rooms room p
     → Begun message (scopeAnswer message (Scope.Message reading) rooms room) (scopeRecords message (Scope.Message reading)) (scopeValues message (Scope.Message reading)) rooms room p
@@ -111,7 +110,7 @@ message-begun message reading rooms room {end} {c} {p} e short (at, fits) b =
     rw (long, read-short reading message long, fits′) (begun-front (read-within reading message) (read-taken reading message) b′)
 
 -- the listing of a foot, from that of the last bytes of a body
-pub foot-begun : (tail : List ℕ) (whole : Bool) (rooms room : ℕ) {at lines looked-at : ℕ} {p : Spot} → length tail ≤ limit → FoundAt tail whole at lines looked-at
+pub foot-begun : (tail : List ℕ) (whole : Bool) (rooms room : ℕ) {at lines looked-at : ℕ} {p : Beginning} → length tail ≤ limit → FoundAt tail whole at lines looked-at
     → Begun tail (settledSays tail (record { at = at; line = 1 }) (Listing.FootListed (counts 0 0) looked-at) rooms room)
     (map (tell (fromEnd (length tail) lines)) (recordsFrom tail (record { at = at; line = 1 }))) (valuesFrom tail (record { at = at; line = 1 })) rooms room p
     → Begun tail (scopeAnswer tail (Scope.Foot whole) rooms room) (scopeRecords tail (Scope.Foot whole)) (scopeValues tail (Scope.Foot whole)) rooms room p

@@ -28,6 +28,7 @@ use Rattle.listing.proofs.Turn.{Split, all-kept, split, taken-is}
 use Rattle.listing.specs.Listing.{taken}
 use Rattle.listing.specs.Turns.{Ready, aheadOf, leftAt, onto, readUpTo, turnOf}
 use Rattle.listing.specs.declared.Spot.{Spot}
+use Rattle.listing.specs.declared.Told.{Told}
 use Rattle.planning.specs.Planning.{found, from}
 use Rattle.planning.proofs.Counted.{from-front}
 
@@ -53,7 +54,7 @@ module _ (input : List ℕ) (p : Spot) (out : List ℕ) (y : Ready input p (leng
   free-length = ap length (rest out (p .done .bytes)) ∙ length-drop (p .done .bytes) out
 
   pub first : Split (leftAt p input)
-  first = split (leftAt p input) (y .more-is)
+  first = split (leftAt p input) (omega (arith, y .more-is))
 
   abbrev t : Trailer
   t = first .here
@@ -117,8 +118,8 @@ module _ (input : List ℕ) (p : Spot) (out : List ℕ) (y : Ready input p (leng
           rw (e, taken-is (rawValueAt t) (rawValue t), from-front (rawValueAt t) (rawValue t))
           (omega (arith, y .fits, ap (λ (ts : List Trailer). length (firstWrites ts)) (first .is)), omega arith)
 
-      pub turn-is : found p s r next ≡ turnOf p s (leftAt p input)
-      turn-is = rw (first .is, size, e, next-is n, taken-is (rawValueAt t) (rawValue t), walk-step s (p .cursor .at) t (first .behind) (first .is))
+      pub turn-is : (told : Told) → found p told s r next ≡ turnOf p told s (leftAt p input)
+      turn-is told = rw (first .is, size, e, next-is n, taken-is (rawValueAt t) (rawValue t), walk-step s (p .cursor .at) t (first .behind) (first .is))
 
   -- the buffer that is left
   pub left : (z : List ℕ) → z ≡ fitted (writtenOf raw) free → putMid (p .done .bytes) (length out - p .done .bytes) out z ≡ onto (p .done .bytes) (firstWrites (leftAt p input)) out

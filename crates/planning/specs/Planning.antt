@@ -12,10 +12,12 @@ use Rattle.rules.specs.declared.Value.{Value}
 use Rattle.listing.specs.Answers.{listingSays, roomRows}
 use Rattle.listing.specs.Listing.{fromFront, recordsFrom, shiftedRecord, taken, tell, valuesFrom, valuesOf}
 use Rattle.listing.specs.Turns.{blank, counts, standing, withCounts}
+use Rattle.listing.specs.declared.Beginning.{Beginning}
 use Rattle.listing.specs.declared.Counts.{Counts}
 use Rattle.listing.specs.declared.Listing.{Listing}
 use Rattle.listing.specs.declared.Spot.{Spot}
 use Rattle.listing.specs.declared.Step.{Step}
+use Rattle.listing.specs.declared.Told.{Told}
 
 -- the trailers of the walk from a place on, and the bytes of their written values
 abbrev pub countsAt : List ℕ → ℕ → Counts
@@ -30,20 +32,22 @@ abbrev pub stays : Spot → Step
 stays p = record { found = blank; next = p }
 
 -- the turn of a record that was read, the walk at `next`
-abbrev pub found : Spot → List ℕ → TrailerRef → Cursor → Step
-found p text r next =
-    let done : Counts = counts (p .done .records + 1) (p .done .bytes + taken (r .value)) in
-    record {
-      found = tell (p .told) (shiftedRecord (p .done .bytes) r);
-      next = standing (length text) next done (withCounts (p .outcome) done) (p .told) (walkFrom text (next .at));
-    }
+abbrev pub found : Spot → Told → List ℕ → TrailerRef → Cursor → Step
+found p told text r next = record {
+  found = tell told (shiftedRecord (p .done .bytes) r);
+  next = standing (length text) next (counts (p .done .records + 1) (p .done .bytes + taken (r .value))) (walkFrom text (next .at));
+}
 
 -- where it is so, there is room for all of the walk
 abbrev pub Ample : List ℕ → ℕ → ℕ → ℕ → Bool → Type 0
 Ample text at rooms room ample = ample ≡ true → (length (walkFrom text at) ≤ rooms) × (length (valuesOf (walkFrom text at)) ≤ room)
 
-abbrev pub refusing : Listing → Spot
-refusing outcome = standing 0 (record { at = 0; line = 0 }) (counts 0 0) outcome fromFront []
+-- where a listing begins that is refused, and one from a cursor on
+abbrev pub refusing : Listing → Beginning
+refusing outcome = record { spot = standing 0 (record { at = 0; line = 0 }) (counts 0 0) []; outcome = outcome; told = fromFront }
+
+abbrev pub beginning : List ℕ → Cursor → Listing → Told → Beginning
+beginning text c outcome told = record { spot = standing (length text) c (counts 0 0) (walkFrom text (c .at)); outcome = outcome; told = told }
 
 -- what is said of a text from a cursor that fits, `outcome` where all is listed
 abbrev pub settledSays : List ℕ → Cursor → Listing → ℕ → ℕ → Said

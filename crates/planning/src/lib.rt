@@ -15,12 +15,13 @@ ghost use Rattle.listing.specs.Turns.{Begun, Ready, counts, leftAt, onto, readU
 ghost use Rattle.listing.specs.declared.Listing.{Listing};
 ghost use Rattle.planning.specs.declared.Scope.{Scope};
 ghost use Rattle.planning.specs.Scopes.{scopeAnswer, scopeRecords, scopeValues};
-ghost use Rattle.planning.specs.Planning.{Ample, countsAt, found, from, refusing, settledSays, stays};
+ghost use Rattle.planning.specs.Planning.{Ample, beginning, countsAt, found, from, refusing, settledSays, stays};
 use divider::Reading;
 use divider::end_in;
 use find::count::count_lf;
 use foot::FootFound;
 use foot::find_foot;
+use listing::Beginning;
 use listing::Counts;
 use listing::Listing;
 use listing::Spot;
@@ -79,7 +80,7 @@ fn bytes_taken(value: Value) -> usize
 }
 
 // An answer with other counts; a refusal stays.
-fn with_counts(outcome: Listing, counts: Counts) -> Listing
+pub fn with_counts(outcome: Listing, counts: Counts) -> Listing
     ensures { λ r. ⌜ r ≡ withCounts outcome counts ⌝ }
 {
     match outcome {
@@ -94,13 +95,13 @@ fn with_counts(outcome: Listing, counts: Counts) -> Listing
 }
 
 // Where a listing stands that has no trailer ahead.
-fn stand_last(end: usize, cursor: Cursor, done: Counts, outcome: Listing, told: Told) -> Spot
-    ensures { λ r. ⌜ r ≡ standing end cursor done outcome told [] ⌝ }
+fn stand_last(end: usize, cursor: Cursor, done: Counts) -> Spot
+    ensures { λ r. ⌜ r ≡ standing end cursor done [] ⌝ }
 {
     Spot {
         end,
         cursor,
-        more: false,
+        more: 0,
         ahead: Places {
             start: 0,
             token_end: 0,
@@ -109,20 +110,18 @@ fn stand_last(end: usize, cursor: Cursor, done: Counts, outcome: Listing, told: 
             end: 0,
         },
         done,
-        outcome,
-        told,
     }
 }
 
 // Where a listing stands whose walk is at `cursor`: the next trailer is looked for.
-fn stand(text: &[u8], cursor: Cursor, done: Counts, outcome: Listing, told: Told) -> Spot
+fn stand(text: &[u8], cursor: Cursor, done: Counts) -> Spot
     requires { ⌜ cursor .at ≤ length (now text) ⌝ }
-    ensures { λ r. ⌜ r ≡ standing (length (now (text .entry))) cursor done outcome told (walkFrom (now (text .entry)) (cursor .at)) ⌝ }
+    ensures { λ r. ⌜ r ≡ standing (length (now (text .entry))) cursor done (walkFrom (now (text .entry)) (cursor .at)) ⌝ }
 {
     let end = text.len();
     let at = cursor.at;
     let NextTrailer::Trailer(found) = next_trailer_from(text, at) else {
-        return stand_last(end, cursor, done, outcome, told);
+        return stand_last(end, cursor, done);
     };
     let ahead = Places {
         start: found.start,
@@ -134,11 +133,9 @@ fn stand(text: &[u8], cursor: Cursor, done: Counts, outcome: Listing, told: Told
     Spot {
         end,
         cursor,
-        more: true,
+        more: 1,
         ahead,
         done,
-        outcome,
-        told,
     }
 }
 
@@ -207,10 +204,10 @@ fn from_front() -> Told
 }
 
 // The turn of a trailer that was read.
-fn turn(text: &[u8], spot: Spot, read: TrailerRef, next: Cursor) -> Step
+fn turn(text: &[u8], spot: Spot, told: Told, read: TrailerRef, next: Cursor) -> Step
     requires { ⌜ (spot .done .bytes + taken (read .value) < 2 ^ 64) × (from (read .value) ≤ taken (read .value)) ⌝ }
     requires { ⌜ (spot .done .records + 1 < 2 ^ 64) × (next .at ≤ length (now text)) × (1 ≤ read .line) ⌝ }
-    ensures { λ r. ⌜ r ≡ found spot (now (text .entry)) read next ⌝ }
+    ensures { λ r. ⌜ r ≡ found spot told (now (text .entry)) read next ⌝ }
 {
     let done = spot.done;
     let used = done.bytes;
@@ -226,10 +223,7 @@ fn turn(text: &[u8], spot: Spot, read: TrailerRef, next: Cursor) -> Step
     let records = done.records + 1;
     let bytes = used + more;
     let written = Counts { records, bytes };
-    let before = spot.outcome;
-    let outcome = with_counts(before, written);
-    let told = spot.told;
-    let after = stand(text, next, written, outcome, told);
+    let after = stand(text, next, written);
     let plain = TrailerRef {
         token,
         value: there,
@@ -256,9 +250,9 @@ fn stay(spot: Spot) -> Step
 }
 
 // The record of the trailer ahead: its value is unfolded into the part of the buffer that is still free. As the single step does.
-pub fn list_step(input: &[u8], spot: Spot, out: &mut [u8]) -> Step
+pub fn list_step(input: &[u8], spot: Spot, told: Told, out: &mut [u8]) -> Step
     requires { ⌜ Ready (now input) spot (length (now out)) ⌝ }
-    ensures { λ r. ⌜ r ≡ turnOf spot (readUpTo spot (now (input .entry))) (leftAt spot (now (input .entry))) ⌝ }
+    ensures { λ r. ⌜ r ≡ turnOf spot told (readUpTo spot (now (input .entry))) (leftAt spot (now (input .entry))) ⌝ }
     ensures { λ _. ⌜ now (out .exit) ≡ onto (spot .done .bytes) (firstWrites (leftAt spot (now (input .entry)))) (now (out .entry)) ⌝ }
 {
     let end = spot.end;
@@ -271,7 +265,7 @@ pub fn list_step(input: &[u8], spot: Spot, out: &mut [u8]) -> Step
     let next = move_on(text, here, places.end);
     let read = read_trailer(text, places, here.line, &mut out[used..]);
     match read {
-        TrailerRead::Trailer(found) => turn(text, spot, found, next),
+        TrailerRead::Trailer(found) => turn(text, spot, told, found, next),
         TrailerRead::Refused(_) => stay(spot),
     }
 }
@@ -322,11 +316,30 @@ fn none() -> Counts
     }
 }
 
-// Where a listing stands that is refused.
-fn refuse(outcome: Listing) -> Spot
+// Where a listing begins that is refused: no trailer is ahead.
+fn refuse(outcome: Listing) -> Beginning
     ensures { λ r. ⌜ r ≡ refusing outcome ⌝ }
 {
-    stand_last(0, Cursor { at: 0, line: 0 }, none(), outcome, from_front())
+    let spot = stand_last(0, Cursor { at: 0, line: 0 }, none());
+    let told = from_front();
+    Beginning {
+        spot,
+        outcome,
+        told,
+    }
+}
+
+// Where one begins that is not: it goes from a cursor on, and nothing is written yet.
+fn begin_at(text: &[u8], cursor: Cursor, outcome: Listing, told: Told) -> Beginning
+    requires { ⌜ cursor .at ≤ length (now text) ⌝ }
+    ensures { λ r. ⌜ r ≡ beginning (now (text .entry)) cursor outcome told ⌝ }
+{
+    let spot = stand(text, cursor, none());
+    Beginning {
+        spot,
+        outcome,
+        told,
+    }
 }
 
 // Where the listing of a text from a cursor on begins, with so many rooms for records and so much room for bytes.
@@ -337,13 +350,13 @@ fn settle(
     told: Told,
     rooms: usize,
     room: usize,
-) -> Spot
-    requires { ⌜ (cursorFits cursor (now text) ≡ true) × (withCounts outcome (counts 0 0) ≡ outcome) × (eqb (number (listingSays outcome)) 0 ≡ true) ⌝ }
+) -> Beginning
+    requires { ⌜ (cursorFits cursor (now text) ≡ true) × (eqb (number (listingSays outcome)) 0 ≡ true) ⌝ }
     ensures { λ r. ⌜ Begun (now (text .entry)) (settledSays (now (text .entry)) cursor outcome rooms room) (map (tell told) (recordsFrom (now (text .entry)) cursor)) (valuesFrom (now (text .entry)) cursor) rooms room r ⌝ }
 {
     let at = cursor.at;
     if is_ample(text, at, rooms, room) {
-        return stand(text, cursor, none(), outcome, told);
+        return begin_at(text, cursor, outcome, told);
     }
     let needed = count(text, at);
     if rooms < needed.records {
@@ -352,7 +365,7 @@ fn settle(
     if room < needed.bytes {
         return refuse(Listing::NoRoom(needed));
     }
-    stand(text, cursor, none(), outcome, told)
+    begin_at(text, cursor, outcome, told)
 }
 
 // The answer of a listing that has written nothing yet.
@@ -363,7 +376,7 @@ fn fresh() -> Listing
 }
 
 // From a cursor on.
-fn begin_from(input: &[u8], cursor: Cursor, rooms: usize, room: usize) -> Spot
+fn begin_from(input: &[u8], cursor: Cursor, rooms: usize, room: usize) -> Beginning
     ensures { λ r. ⌜ Begun (now (input .entry)) (scopeAnswer (now (input .entry)) (Scope.From cursor) rooms room) (scopeRecords (now (input .entry)) (Scope.From cursor)) (scopeValues (now (input .entry)) (Scope.From cursor)) rooms room r ⌝ }
 {
     if input.len() > LIMIT {
@@ -376,7 +389,7 @@ fn begin_from(input: &[u8], cursor: Cursor, rooms: usize, room: usize) -> Spot
 }
 
 // Of a message in a reading.
-fn begin_message(message: &[u8], reading: Reading, rooms: usize, room: usize) -> Spot
+fn begin_message(message: &[u8], reading: Reading, rooms: usize, room: usize) -> Beginning
     ensures { λ r. ⌜ Begun (now (message .entry)) (scopeAnswer (now (message .entry)) (Scope.Message reading) rooms room) (scopeRecords (now (message .entry)) (Scope.Message reading)) (scopeValues (now (message .entry)) (Scope.Message reading)) rooms room r ⌝ }
 {
     if message.len() > LIMIT {
@@ -391,7 +404,7 @@ fn begin_message(message: &[u8], reading: Reading, rooms: usize, room: usize) ->
 }
 
 // Of a body's foot.
-fn begin_foot(tail: &[u8], whole: bool, rooms: usize, room: usize) -> Spot
+fn begin_foot(tail: &[u8], whole: bool, rooms: usize, room: usize) -> Beginning
     ensures { λ r. ⌜ Begun (now (tail .entry)) (scopeAnswer (now (tail .entry)) (Scope.Foot whole) rooms room) (scopeRecords (now (tail .entry)) (Scope.Foot whole)) (scopeValues (now (tail .entry)) (Scope.Foot whole)) rooms room r ⌝ }
 {
     let size = tail.len();
@@ -413,7 +426,7 @@ fn begin_foot(tail: &[u8], whole: bool, rooms: usize, room: usize) -> Spot
 }
 
 // Where a listing begins, with so many rooms for records and so much room for bytes; what it answers is settled there.
-pub fn begin(input: &[u8], scope: Scope, rooms: usize, room: usize) -> Spot
+pub fn begin(input: &[u8], scope: Scope, rooms: usize, room: usize) -> Beginning
     ensures { λ r. ⌜ Begun (now (input .entry)) (scopeAnswer (now (input .entry)) scope rooms room) (scopeRecords (now (input .entry)) scope) (scopeValues (now (input .entry)) scope) rooms room r ⌝ }
 {
     match scope {

@@ -5,6 +5,7 @@ use listing::Listing;
 use planning::Scope;
 use planning::begin;
 use planning::list_step;
+use planning::with_counts;
 use rules::TrailerRef;
 
 // What is listed of an input: the records into `table`, the unfolded values one behind another into `out`.
@@ -16,13 +17,15 @@ pub fn list<'b, 't, 'o>(
 ) -> Listing
     ensures { λ r. ⌜ Lists (now (input .entry)) scope (now (table .entry)) (now (out .entry)) r (now (table .exit)) (now (out .exit)) ⌝ }
 {
-    let mut spot = begin(input, scope, table.len(), out.len());
+    let begun = begin(input, scope, table.len(), out.len());
+    let told = begun.told;
+    let mut spot = begun.spot;
     let mut i: usize = 0;
-    while spot.more {
-        let step = list_step(input, spot, out);
+    while spot.more > 0 {
+        let step = list_step(input, spot, told, out);
         table[i] = step.found;
         spot = step.next;
         i += 1;
     }
-    spot.outcome
+    with_counts(begun.outcome, spot.done)
 }

@@ -56,7 +56,7 @@ settle-requires c κs =
     let f = c .before .before in
     let a = start f .args in
     let at = found f .at-is in
-    (rw at (foot-fits (a .tail .now)), rw (c .none .ensures) refl, refl)
+    (rw at (foot-fits (a .tail .now)), refl)
 
 returns-3 : tie.Need-returns-3
 returns-3 c =

@@ -37,7 +37,7 @@ from-front-requires c κs = search needs
 settle-requires : tie.Need-settle-requires
 settle-requires c κs =
     let e = c .before .before in
-    (sym (e .before .cursor-fits .ensures) ∙ not-false _ (e .if2 .left), rw (c .before .fresh .ensures) refl, rw (c .before .fresh .ensures) refl)
+    (sym (e .before .cursor-fits .ensures) ∙ not-false _ (e .if2 .left), rw (c .before .fresh .ensures) refl)
 
 returns-3 : tie.Need-returns-3
 returns-3 c =

@@ -68,7 +68,7 @@ from-front-requires : tie.Need-from-front-requires
 from-front-requires c κs = search needs
 
 settle-requires : tie.Need-settle-requires
-settle-requires c κs = (begins (c .before .before .before) .1, rw (c .before .fresh .ensures) refl, rw (c .before .fresh .ensures) refl)
+settle-requires c κs = (begins (c .before .before .before) .1, rw (c .before .fresh .ensures) refl)
 
 returns-3 : tie.Need-returns-3
 returns-3 c =

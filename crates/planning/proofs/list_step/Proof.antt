@@ -71,7 +71,7 @@ returns c =
     let o = s .args .out .now in
     let h = m .before .move-on .ensures in
     let e = found-is i p o (s .pre) h (c .before .before .read .given .1) (r .read-trailer .ensures .0) in
-    (c .turn .ensures ∙ turn-is i p o (s .pre) h e (m .move-on2 .ensures), left i p o (s .pre) (r .read-trailer .last .1 .1 .1 .0) (r .read-trailer .ensures .1))
+    (c .turn .ensures ∙ turn-is i p o (s .pre) h e (m .move-on2 .ensures) (s .args .told), left i p o (s .pre) (r .read-trailer .last .1 .1 .1 .0) (r .read-trailer .ensures .1))
 
 same-length-2 : tie.Need-same-length-2
 same-length-2 c = search needs

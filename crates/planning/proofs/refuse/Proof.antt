@@ -6,16 +6,16 @@ use Rattle.planning.proofs.refuse.Tie as tie
 none-requires : tie.Need-none-requires
 none-requires c κs = search needs
 
-from-front-requires : tie.Need-from-front-requires
-from-front-requires c κs = search needs
-
 stand-last-requires : tie.Need-stand-last-requires
 stand-last-requires c κs = search needs
 
+from-front-requires : tie.Need-from-front-requires
+from-front-requires c κs = search needs
+
 returns : tie.Need-returns
 returns c =
-    let f = c .before in
-    rw (c .stand-last .ensures, f .from-front .ensures, f .before .none .ensures)
+    let s = c .before in
+    rw (c .from-front .ensures, s .stand-last .ensures, s .before .none .ensures)
 
 pub refuse-spec : {M : Type 1} → statement M
-refuse-spec = tie.close (tie.spec none-requires from-front-requires stand-last-requires returns)
+refuse-spec = tie.close (tie.spec none-requires stand-last-requires from-front-requires returns)

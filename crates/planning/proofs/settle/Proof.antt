@@ -8,19 +8,16 @@ use Rattle.planning.proofs.settle.Tie as tie
 is-ample-requires : tie.Need-is-ample-requires
 is-ample-requires c κs = let s = c .before in fits-is (s .args .text .now) (s .args .cursor) (s .pre .0) .0
 
-none-requires : tie.Need-none-requires
-none-requires c κs = search needs
-
-stand-requires : tie.Need-stand-requires
-stand-requires c κs = let s = c .before .before .before .before in fits-is (s .args .text .now) (s .args .cursor) (s .pre .0) .0
+begin-at-requires : tie.Need-begin-at-requires
+begin-at-requires c κs = let s = c .before .before .before in fits-is (s .args .text .now) (s .args .cursor) (s .pre .0) .0
 
 returns : tie.Need-returns
 returns c =
-    let t = c .before .before in
+    let t = c .before in
     let s = t .before .before .before in
     let a = s .args in
     let fit = t .before .is-ample .ensures (t .if1 .taken) in
-    rw (c .stand .ensures, c .before .none .ensures) (all-fit (a .text .now) (a .cursor) (a .outcome) (a .told) (a .rooms) (a .room) (s .pre .0) (s .pre .1) (s .pre .2) (fit .0) (fit .1))
+    rw (c .begin-at .ensures) (all-fit (a .text .now) (a .cursor) (a .outcome) (a .told) (a .rooms) (a .room) (s .pre .0) (s .pre .1) (fit .0) (fit .1))
 
 count-requires : tie.Need-count-requires
 count-requires c κs = let s = c .before .before .before in fits-is (s .args .text .now) (s .args .cursor) (s .pre .0) .0
@@ -48,33 +45,28 @@ returns-3 c =
     let a = start n .args in
     rw (c .refuse2 .ensures) (no-room (a .text .now) (a .cursor) (a .outcome) (a .told) (a .rooms) (a .room) (n .count .ensures) (e .if2 .left) (c .before .if3 .taken))
 
-none-requires-2 : tie.Need-none-requires-2
-none-requires-2 c κs = search needs
-
-stand-requires-2 : tie.Need-stand-requires-2
-stand-requires-2 c κs = let s = start (c .before .before .before .before .before) in fits-is (s .args .text .now) (s .args .cursor) (s .pre .0) .0
+begin-at-requires-2 : tie.Need-begin-at-requires-2
+begin-at-requires-2 c κs = let s = start (c .before .before .before .before) in fits-is (s .args .text .now) (s .args .cursor) (s .pre .0) .0
 
 returns-4 : tie.Need-returns-4
 returns-4 c =
-    let e = c .before .before .before .before in
+    let e = c .before .before .before in
     let n = e .before .before in
     let s = start n in
     let a = s .args in
-    rw (c .stand2 .ensures, c .before .none2 .ensures) (all-fit (a .text .now) (a .cursor) (a .outcome) (a .told) (a .rooms) (a .room) (s .pre .0) (s .pre .1) (s .pre .2) (rw (n .count .ensures) at (e .if2 .left)) (rw (n .count .ensures) at (c .before .before .if3 .left)))
+    rw (c .begin-at2 .ensures) (all-fit (a .text .now) (a .cursor) (a .outcome) (a .told) (a .rooms) (a .room) (s .pre .0) (s .pre .1) (rw (n .count .ensures) at (e .if2 .left)) (rw (n .count .ensures) at (c .before .if3 .left)))
 
 pub settle-spec : {M : Type 1} → statement M
 settle-spec =
     tie.close
     (tie.spec
     is-ample-requires
-    none-requires
-    stand-requires
+    begin-at-requires
     returns
     count-requires
     refuse-requires
     returns-2
     refuse-requires-2
     returns-3
-    none-requires-2
-    stand-requires-2
+    begin-at-requires-2
     returns-4)

@@ -31,7 +31,7 @@ returns-2 : tie.Need-returns-2
 returns-2 c =
     let n = c .before .before .before in
     let a = n .before .before .args in
-    found-standing (length (a .text .now)) (a .cursor) (a .done) (a .outcome) (a .told) (walkFrom (a .text .now) (a .cursor .at)) (sym (n .next-trailer-from .ensures) ∙ c .before .found .given .1)
+    found-standing (length (a .text .now)) (a .cursor) (a .done) (walkFrom (a .text .now) (a .cursor .at)) (sym (n .next-trailer-from .ensures) ∙ c .before .found .given .1)
 
 pub stand-spec : {M : Type 1} → statement M
 stand-spec =

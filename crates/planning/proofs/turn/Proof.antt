@@ -15,9 +15,6 @@ add-records c = search needs
 add-bytes : tie.Need-add-bytes
 add-bytes c = search needs
 
-with-counts-requires : tie.Need-with-counts-requires
-with-counts-requires c κs = search needs
-
 stand-requires : tie.Need-stand-requires
 stand-requires c κs = search needs
 
@@ -27,9 +24,8 @@ tell-requires c κs = search needs
 returns : tie.Need-returns
 returns c =
     let a = c .before in
-    let w = a .before .before in
-    let t = w .before .before in
-    rw (c .tell .ensures, a .stand .ensures, w .with-counts .ensures, t .bytes-taken .ensures, t .before .shift .ensures)
+    let t = a .before .before in
+    rw (c .tell .ensures, a .stand .ensures, t .bytes-taken .ensures, t .before .shift .ensures)
 
 pub turn-spec : {M : Type 1} → statement M
 turn-spec =
@@ -39,7 +35,6 @@ turn-spec =
     bytes-taken-requires
     add-records
     add-bytes
-    with-counts-requires
     stand-requires
     tell-requires
     returns)
