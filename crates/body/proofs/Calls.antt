@@ -3,10 +3,10 @@ use mathlib.Core.Bool.{true, false}
 use mathlib.Core.List.{List, [], _∷_}
 use mathlib.Core.Option.{Option, none, some}
 use mathlib.Core.Path.{_≡_, refl, ap, _∙_}
-use Prim.Native.Nat.{ℕ, _+_, _-_, _≤_}
+use Prim.Native.Nat.{ℕ, _+_, _-_, _≤_, _<_}
 use native.Mathlib.Omega.{arith}
 use borrow.Author.Tests.{le-ltb}
-use lib.Dec.{leb, ltb}
+use lib.Dec.{ltb}
 use lib.ListN.{length, take, drop}
 use Rattle.block.specs.Step.{nextBlock}
 use Rattle.block.specs.declared.NextBlock.{NextBlock}
@@ -16,10 +16,11 @@ use Rattle.record.specs.Read.{trailerRead}
 use Rattle.record.specs.declared.TrailerRead.{TrailerRead}
 use Rattle.rules.specs.Answers.{Said, judged, limit, noRoom, number, trailerFoundSays, trailerStepSays, values}
 use Rattle.rules.specs.Division.{Block, block}
+use Rattle.rules.specs.Lines.{lines}
 use Rattle.rules.specs.Number.{cursorAt, cursorFits, lineNumber, movedOn}
 use Rattle.rules.specs.Paragraph.{blockStart}
 use Rattle.rules.specs.Record.{fitted, placesOf, recordOf, writtenOf}
-use Rattle.rules.specs.Trailer.{Trailer, isOf, lookup, only, placeOf, rawValue, valueIsWritten, walkFrom}
+use Rattle.rules.specs.Trailer.{Trailer, isOf, lookup, only, placeOf, rawValue, walkFrom}
 use Rattle.rules.specs.declared.BlockStep.{BlockStep}
 use Rattle.rules.specs.declared.Cursor.{Cursor}
 use Rattle.rules.specs.declared.Kind.{Kind}
@@ -29,7 +30,7 @@ use Rattle.rules.specs.declared.TrailerRef.{TrailerRef}
 use Rattle.rules.specs.declared.TrailerStep.{TrailerStep}
 use Rattle.rules.proofs.Answers.{judged-answer, trailer-step-decides}
 use Rattle.rules.proofs.Number.{fits-is, moved-twice, moved-within}
-use Rattle.rules.proofs.Record.{may-read, places-fit}
+use Rattle.rules.proofs.Record.{MayRead, first-line-is, may-read, places-fit}
 use Rattle.rules.proofs.Walk.{Stands, lookup-stands, only-stands, those-place}
 use Rattle.trailer.proofs.Steps.{First, first-is, none-is}
 use Rattle.trailer.specs.Walk.{nextOf}
@@ -76,10 +77,12 @@ module _ (kind : Kind) (body : List ℕ) (c : Cursor) (short : ltb limit (length
         let here : p .start ≡ placeOf (f .found) = ap (λ (k : Places). k .start) (f .places) in
         (fits-is body c fits .2, omega (arith, place, here), omega (arith, a, b, d, e))
 
-    pub end-fits : {here : Cursor} → here ≡ movedOn body c (p .start) → (here .line ≤ here .at + 1) × (here .at ≤ p .end) × (p .end ≤ length body)
+    pub end-fits : {here : Cursor} → here ≡ movedOn body c (p .start)
+        → ((here .line ≤ here .at + 1) × (here .at < p .end) × (p .end ≤ length body))
+        × (length (lines (take (p .«first_end» - here .at) (drop (here .at) body))) ≡ 1)
     end-fits h =
         let (a, b, d, e) = places-fit w (f .places) in
-        rw h (moved-within body c (p .start) (start-fits .0) (start-fits .1), omega (arith, a, b, d), e)
+        rw h ((moved-within body c (p .start) (start-fits .0) (start-fits .1), omega (arith, a, b, d), e), first-line-is w (f .places))
 
     pub next-is : {here next : Cursor} → here ≡ movedOn body c (p .start) → next ≡ movedOn body here (p .end) → next ≡ movedOn body c (p .end)
     next-is h n =
@@ -92,8 +95,7 @@ module _ (kind : Kind) (body : List ℕ) (c : Cursor) (short : ltb limit (length
     abbrev written : List ℕ
     written = writtenOf (rawValue (f .found))
 
-    pub step-fits : ((p .«value_start» ≤ p .end) × (p .end ≤ length body))
-        × (valueIsWritten (take (p .end - p .«value_start») (drop (p .«value_start») body)) ≡ ltb (p .«first_end») (p .end))
+    pub step-fits : MayRead body p
     step-fits = may-read w (f .places)
 
     pub step-found : {here next : Cursor} → here ≡ movedOn body c (p .start) → next ≡ movedOn body here (p .end)
@@ -151,8 +153,7 @@ module _ (body name : List ℕ) (short : ltb limit (length body) ≡ false) (bri
     at-l : Stands body (l .found)
     at-l = lookup-stands body (blockStart body) name (l .there)
 
-    pub find-fits : ((p .«value_start» ≤ p .end) × (p .end ≤ length body))
-        × (valueIsWritten (take (p .end - p .«value_start») (drop (p .«value_start») body)) ≡ ltb (p .«first_end») (p .end))
+    pub find-fits : MayRead body p
     find-fits = may-read at-l (l .places)
 
     pub start-inside : p .start ≤ length body

@@ -10,6 +10,7 @@ use filter::find_named;
 use filter::next_of;
 use numbering::cursor_fits;
 use numbering::move_on;
+use numbering::move_over;
 use numbering::right_cursor;
 use paragraph::last_ending;
 use record::TrailerRead;
@@ -64,7 +65,7 @@ pub fn next_trailer_of(body: &[u8], cursor: Cursor, kind: Kind, out: &mut [u8]) 
     let first_end = places.first_end;
     let end = places.end;
     let here = move_on(body, cursor, start);
-    let next = move_on(body, here, end);
+    let next = move_over(body, here, first_end, end);
     let found = Places {
         start,
         token_end,

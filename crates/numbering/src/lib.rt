@@ -1,7 +1,8 @@
 // Cursors and the numbers of their lines: whether a cursor fits, one moved on to a later place, and the right one of a place.
 ghost use mathlib.Core.Path.{_≡_};
-ghost use Prim.Native.Nat.{_+_, _≤_};
-ghost use lib.ListN.{length};
+ghost use Prim.Native.Nat.{_+_, _-_, _≤_, _<_};
+ghost use lib.ListN.{length, take, drop};
+ghost use Rattle.rules.specs.Lines.{lines};
 ghost use Rattle.rules.specs.Number.{cursorAt, cursorFits, movedOn};
 use find::count::count_lf;
 use rules::Cursor;
@@ -29,6 +30,24 @@ pub fn move_on(input: &[u8], cursor: Cursor, at: usize) -> Cursor
 {
     let from = cursor.at;
     let line = cursor.line + count_lf(input, from, at);
+    Cursor { at, line }
+}
+
+// A cursor at a line's start, moved on to a later place. That line ends at `first`, and it has at most one LF, its last byte: the LFs are
+// counted only where more lines are passed.
+pub fn move_over(input: &[u8], cursor: Cursor, first: usize, at: usize) -> Cursor
+    requires { ⌜ (cursor .line ≤ cursor .at + 1) × (cursor .at < at) × (at ≤ length (now input)) ⌝ }
+    requires { ⌜ length (lines (take (first - cursor .at) (drop (cursor .at) (now input)))) ≡ 1 ⌝ }
+    ensures { λ r. ⌜ r ≡ movedOn (now (input .entry)) cursor at ⌝ }
+{
+    if first != at {
+        return move_on(input, cursor, at);
+    }
+    if input[at - 1] == b'\n' {
+        let line = cursor.line + 1;
+        return Cursor { at, line };
+    }
+    let line = cursor.line;
     Cursor { at, line }
 }
 

@@ -5,18 +5,18 @@ use Prim.Native.Nat.{ℕ, _+_, _-_, _≤_, _<_, _^_}
 use native.Mathlib.Omega.{arith}
 use borrow.Author.Tests.{le-ltb}
 use borrow.Rule.Slice.PartMut.{putMid}
-use lib.Dec.{ltb}
 use lib.ListN.{length, take, drop, length-drop}
 use lib.Seq.{length-take-le}
 use Rattle.record.specs.Read.{trailerRead}
 use Rattle.record.specs.declared.TrailerRead.{TrailerRead}
 use Rattle.rules.proofs.Number.{fits-is, moved-twice, moved-within}
 use Rattle.rules.proofs.Parts.{rest}
-use Rattle.rules.proofs.Record.{may-read, places-fit, raw-is}
+use Rattle.rules.proofs.Record.{MayRead, first-line-is, may-read, places-fit, raw-is}
 use Rattle.rules.proofs.Walk.{Stands, those-place, walk-stands, walk-step}
+use Rattle.rules.specs.Lines.{lines}
 use Rattle.rules.specs.Number.{movedOn}
 use Rattle.rules.specs.Record.{fitted, placesOf, recordOf, writtenOf}
-use Rattle.rules.specs.Trailer.{Trailer, endOf, isOf, placeOf, rawValue, rawValueAt, valueIsWritten}
+use Rattle.rules.specs.Trailer.{Trailer, endOf, isOf, placeOf, rawValue, rawValueAt}
 use Rattle.rules.specs.declared.Cursor.{Cursor}
 use Rattle.rules.specs.declared.Kind.{Kind}
 use Rattle.rules.specs.declared.Places.{Places}
@@ -74,7 +74,7 @@ module _ (input : List ℕ) (p : Spot) (out : List ℕ) (y : Ready input p (leng
       let place = those-place s (isOf Kind.All) (p .cursor .at) (leftAt p input) t (first .behind) refl (all-kept (leftAt p input) ∙ first .is) in
       (fits-is s (p .cursor) (y .placed) .2, omega (arith, place, ap (λ (k : Places). k .start) places), omega (arith, places-fit there places))
 
-  pub read-fits : ((p .ahead .«value_start» ≤ p .ahead .end) × (p .ahead .end ≤ length s)) × (valueIsWritten raw ≡ ltb (p .ahead .«first_end») (p .ahead .end))
+  pub read-fits : MayRead s (p .ahead)
   read-fits = may-read there places
 
   -- its number is one of a line
@@ -82,8 +82,11 @@ module _ (input : List ℕ) (p : Spot) (out : List ℕ) (y : Ready input p (leng
   first-line = omega (arith, fits-is s (p .cursor) (y .placed))
 
   module _ {here : Cursor} (h : here ≡ movedOn s (p .cursor) (p .ahead .start)) where
-    pub end-fits : (here .line ≤ here .at + 1) × (here .at ≤ p .ahead .end) × (p .ahead .end ≤ length s)
-    end-fits = rw h (moved-within s (p .cursor) (p .ahead .start) (start-fits .0) (start-fits .1), omega (arith, places-fit there places), read-fits .0 .1)
+    pub end-fits : ((here .line ≤ here .at + 1) × (here .at < p .ahead .end) × (p .ahead .end ≤ length s))
+        × (length (lines (take (p .ahead .«first_end» - here .at) (drop (here .at) s))) ≡ 1)
+    end-fits =
+        let number = moved-within s (p .cursor) (p .ahead .start) (start-fits .0) (start-fits .1) in
+        rw h ((number, omega (arith, places-fit there places), read-fits .0 .1), first-line-is there places)
 
     next-is : {next : Cursor} → next ≡ movedOn s here (p .ahead .end) → next ≡ movedOn s (p .cursor) (endOf t)
     next-is n =

@@ -30,6 +30,7 @@ use listing::Told;
 use message::message_trailers;
 use numbering::cursor_fits;
 use numbering::move_on;
+use numbering::move_over;
 use record::TrailerRead;
 use record::read_trailer;
 use rules::Cursor;
@@ -262,7 +263,7 @@ pub fn list_step(input: &[u8], spot: Spot, told: Told, out: &mut [u8]) -> Step
     let done = spot.done;
     let used = done.bytes;
     let here = move_on(text, cursor, places.start);
-    let next = move_on(text, here, places.end);
+    let next = move_over(text, here, places.first_end, places.end);
     let read = read_trailer(text, places, here.line, &mut out[used..]);
     match read {
         TrailerRead::Trailer(found) => turn(text, spot, told, found, next),

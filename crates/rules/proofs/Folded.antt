@@ -1,12 +1,12 @@
 -- A trailer's raw value has more than one line just if folded lines stand under the trailer's first line, and one line holds at most one
 -- LF, its last byte: so where the first line ends tells whether a value is unfolded, and how many LFs are passed. Assumes nothing.
 use mathlib.Core.Bool.{Bool, true, false, not}
-use mathlib.Core.List.{List, [], _∷_, _++_, append-assoc, append-nil}
+use mathlib.Core.List.{List, [], _∷_, _++_, append-assoc}
 use mathlib.Core.Path.{_≡_, refl, sym, ap, _∙_}
 use Prim.Native.Nat.{ℕ, suc, _+_, _-_, _≤_, _<_}
 use native.Mathlib.Omega.{arith}
 use borrow.Author.Tests.{le-ltb, lt-ltb}
-use lib.Dec.{T, T-not, not-T, eqb, eqb→eq, ltb}
+use lib.Dec.{T, not-T, eqb, eqb→eq, ltb}
 use lib.ListN.{length, take, drop, getD, length-append, length-drop}
 use lib.Seq.{getD-drop, take-suc}
 use Rattle.rules.specs.Bytes.{LF, colon, gapByte, tokenByte}
@@ -49,6 +49,7 @@ module _ (l : Line) (js : List Line) (t : T (trailerLine l)) (e : lines (l ++ jo
   whole : l ++ join js ≡ front ++ raw
   whole = ap (λ (x : List ℕ). x ++ join js) (trailer-line l t .read) ∙ simp append-assoc
 
+  -- where it has bytes, the raw value has as many lines as the trailer
   as-many : T (filled raw) → length (lines raw) ≡ suc (length js)
   as-many f = omega (arith, no-feeds, feeds-and-lines front raw f, ap length (sym (ap lines whole) ∙ e))
 
@@ -70,6 +71,7 @@ raw-folded at l (j ∷ js) t e =
 
 -- ---- the LF of one line
 
+-- its last byte tells how many it has
 alone : (c : ℕ) → length (lines (c ∷ [])) ≡ 1
 alone c = elim (eqb c LF) as (λ b. length (before b c []) ≡ 1) [ true ↦ refl | false ↦ refl ]
 

@@ -12,6 +12,12 @@ use Rattle.rules.specs.Trailer.{Trailer, placeOf, endOf, tokenOf, rawVal
 use Rattle.rules.specs.declared.Places.{Places}
 use Rattle.rules.proofs.Walk.{Stands}
 
+-- what is asked of who reads the record of a trailer at these places
+abbrev pub MayRead : List ℕ → Places → Type 0
+MayRead body at =
+    ((at .«value_start» ≤ at .end) × (at .end ≤ length body))
+    × (valueIsWritten (take (at .end - at .«value_start») (drop (at .«value_start») body)) ≡ ltb (at .«first_end») (at .end))
+
 module _ {body : List ℕ} {t : Trailer} {at : Places} (w : Stands body t) (e : at ≡ placesOf t) where
   pub places-fit : (at .start ≤ at .«token_end») × (at .«token_end» < at .«value_start») × (at .«value_start» ≤ at .end) × (at .end ≤ length body)
   places-fit = rw e (omega (arith, w .token-ends, w .raw-ends, w .inside))
@@ -27,9 +33,7 @@ module _ {body : List ℕ} {t : Trailer} {at : Places} (w : Stands body t) (e : 
       let size : endOf t - rawValueAt t ≡ length (rawValue t) = omega (arith, w .raw-ends) in
       rw (e, size) (w .raw-value-at)
 
-  -- what is asked of who reads its record
-  pub may-read : ((at .«value_start» ≤ at .end) × (at .end ≤ length body))
-      × (valueIsWritten (take (at .end - at .«value_start») (drop (at .«value_start») body)) ≡ ltb (at .«first_end») (at .end))
+  pub may-read : MayRead body at
   may-read =
       let (a, b, c, d) = places-fit in
       ((c, d), ap valueIsWritten raw-is ∙ w .folded-is ∙ ap (λ (p : Places). ltb (p .«first_end») (p .end)) (sym e))

@@ -9,7 +9,7 @@ use lib.ListN.{length}
 use Rattle.record.proofs.Read.{saidOf}
 use Rattle.rules.proofs.Number.{fits-is}
 use Rattle.rules.specs.Answers.{limit, trailerStepSays}
-use Rattle.rules.specs.Number.{cursorFits, movedOn}
+use Rattle.rules.specs.Number.{cursorFits}
 use Rattle.rules.specs.Trailer.{only, walkFrom}
 use Rattle.rules.specs.declared.TrailerStep.{TrailerStep}
 use Rattle.trailer.specs.Walk.{nextOf}
@@ -81,8 +81,8 @@ move-on-requires-2 c κs =
     let a = start e .args in
     start-fits (a .kind) (a .body .now) (a .cursor) (short e) (fits e) (found t)
 
-move-on-requires-3 : tie.Need-move-on-requires-3
-move-on-requires-3 c κs =
+move-over-requires : tie.Need-move-over-requires
+move-over-requires c κs =
     let t = c .before .before in let e = tested t in
     let a = start e .args in
     end-fits (a .kind) (a .body .now) (a .cursor) (short e) (fits e) (found t) (c .move-on2 .ensures)
@@ -96,13 +96,13 @@ read-trailer-requires c κs =
 -- what is said of its record, and what is left in the buffer
 answered : (r : tie.After-read-trailer) →
     let m = r .before .before in let t = m .before .before .before in let a = start (tested t) .args in
-    (saidOf (λ x. trailerStepSays (TrailerStep.Trailer x (m .move-on3 .result))) (r .read-trailer .result)
+    (saidOf (λ x. trailerStepSays (TrailerStep.Trailer x (m .move-over .result))) (r .read-trailer .result)
     ≡ stepAnswer (a .kind) (a .body .now) (a .cursor) (length (a .out .now)))
     × (r .read-trailer .last .1 .1 .1 .0 ≡ stepBuffer (a .kind) (a .body .now) (a .cursor) (a .out .now))
 answered r =
     let m = r .before .before in let h = m .before in let t = h .before .before in let e = tested t in
     let a = start e .args in (
-      step-found (a .kind) (a .body .now) (a .cursor) (short e) (fits e) (found t) (h .move-on2 .ensures) (m .move-on3 .ensures) (length (a .out .now)) (r .read-trailer .ensures .0),
+      step-found (a .kind) (a .body .now) (a .cursor) (short e) (fits e) (found t) (h .move-on2 .ensures) (m .move-over .ensures) (length (a .out .now)) (r .read-trailer .ensures .0),
       step-left (a .kind) (a .body .now) (a .cursor) (short e) (fits e) (found t) (a .out .now) (r .read-trailer .ensures .1),
     )
 
@@ -141,7 +141,7 @@ next-trailer-of-spec =
     move-on-requires
     returns-3
     move-on-requires-2
-    move-on-requires-3
+    move-over-requires
     read-trailer-requires
     enum-known-read
     enum-known-read-2

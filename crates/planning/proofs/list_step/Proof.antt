@@ -1,5 +1,5 @@
 -- `planning::list_step` meets its contract. Assumes nothing.
-use mathlib.Core.Path.{_≡_, sym, _∙_}
+use mathlib.Core.Path.{sym, _∙_}
 use Prim.Native.Nat.{_+_, _≤_, _<_, _^_}
 use native.Mathlib.Omega.{arith}
 use Rattle.rules.proofs.Number.{fits-is}
@@ -19,8 +19,8 @@ start d = let text = d .before .before .before in text .before .before .before
 move-on-requires : tie.Need-move-on-requires
 move-on-requires c κs = let s = start c in start-fits (s .args .input .now) (s .args .spot) (s .args .out .now) (s .pre)
 
-move-on-requires-2 : tie.Need-move-on-requires-2
-move-on-requires-2 c κs = let s = start (c .before) in end-fits (s .args .input .now) (s .args .spot) (s .args .out .now) (s .pre) (c .move-on .ensures)
+move-over-requires : tie.Need-move-over-requires
+move-over-requires c κs = let s = start (c .before) in end-fits (s .args .input .now) (s .args .spot) (s .args .out .now) (s .pre) (c .move-on .ensures)
 
 sub-read-trailer : tie.Need-sub-read-trailer
 sub-read-trailer c = search needs
@@ -47,10 +47,10 @@ turn-requires c κs =
     let o = s .args .out .now in
     let h = m .before .move-on .ensures in
     let e = found-is i p o (s .pre) h (c .before .read .given .1) (r .read-trailer .ensures .0) in
-    let next = next-within i p o (s .pre) h e (m .move-on2 .ensures) in
+    let next = next-within i p o (s .pre) h e (m .move-over .ensures) in
     let one : 1 ≤ c .before .read .given .0 .0 .line = rw e (first-line i p o (s .pre)) in
     let few : p .done .records + 1 < 2 ^ 64 = omega (arith, s .pre .few, fits-is (readUpTo p i) (p .cursor) (s .pre .placed), size i p o (s .pre), s .pre .within) in
-    (turn-fits i p o (s .pre) h e (m .move-on2 .ensures) (omega arith), (few, next, one))
+    (turn-fits i p o (s .pre) h e (m .move-over .ensures) (omega arith), (few, next, one))
 
 enum-told : tie.Need-enum-told
 enum-told c = search needs
@@ -71,7 +71,7 @@ returns c =
     let o = s .args .out .now in
     let h = m .before .move-on .ensures in
     let e = found-is i p o (s .pre) h (c .before .before .read .given .1) (r .read-trailer .ensures .0) in
-    (c .turn .ensures ∙ turn-is i p o (s .pre) h e (m .move-on2 .ensures) (s .args .told), left i p o (s .pre) (r .read-trailer .last .1 .1 .1 .0) (r .read-trailer .ensures .1))
+    (c .turn .ensures ∙ turn-is i p o (s .pre) h e (m .move-over .ensures) (s .args .told), left i p o (s .pre) (r .read-trailer .last .1 .1 .1 .0) (r .read-trailer .ensures .1))
 
 same-length-2 : tie.Need-same-length-2
 same-length-2 c = search needs
@@ -89,7 +89,7 @@ list-step-spec =
     (tie.spec
     slice-aggregate-text
     move-on-requires
-    move-on-requires-2
+    move-over-requires
     sub-read-trailer
     part-read-trailer-start
     part-read-trailer-end
