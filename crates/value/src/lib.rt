@@ -16,7 +16,7 @@ use rules::Value;
 use rules::ValueFound;
 use text::line::has_more_lines;
 use text::line::line_len;
-use white::trim;
+use white::trim_value;
 
 // Whether a raw value has more than one line, so that its unfolded value is written.
 fn is_folded(value: &[u8]) -> bool
@@ -29,7 +29,7 @@ fn is_folded(value: &[u8]) -> bool
 fn trim_line<'a>(line: &'a [u8]) -> &'a [u8]
     ensures { λ r. ⌜ now r ≡ trim (now (line .entry)) ⌝ }
 {
-    let kept = trim(line);
+    let kept = trim_value(line);
     let start = kept.start;
     let end = kept.end;
     &line[start..end]
@@ -149,7 +149,7 @@ pub fn read_value(body: &[u8], from: usize, first: usize, to: usize, out: &mut [
     if first < to {
         return unfold_value(raw, out);
     }
-    let part = trim(raw);
+    let part = trim_value(raw);
     let start = from + part.start;
     let end = from + part.end;
     ValueFound::At(Value::InInput(Part { start, end }))

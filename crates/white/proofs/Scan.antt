@@ -6,17 +6,17 @@ use mathlib.Core.Path.{_≡_, refl, sym, ap, _∙_}
 use Prim.Native.Nat.{ℕ, zero, suc, _+_, _-_, _≤_, _<_}
 use native.Mathlib.Omega.{arith}
 use borrow.Author.Tests.{eq-eqb, ne-eqb, eqb-true, ltb-true}
-use lib.Dec.{T, eqb, ltb, not-T}
+use lib.Dec.{T, eqb, leb, leb→le, ltb, not-T}
 use lib.ListN.{length, take, drop, getD, length-append, length-drop, take-append-drop}
-use lib.Seq.{drop-append-seam, drop-drop, getD-take, length-take-le, take-all, take-append-seam, take-take}
+use lib.Seq.{drop-append-seam, drop-drop, getD-drop, getD-take, length-take-le, take-all, take-append-seam, take-take}
 use Rattle.rules.specs.Lists.{if_then_else_, filled}
 use Rattle.rules.specs.White.{whiteSpace, Form, formAt, trimStart, trimEnd, trim, trimAt}
 use Rattle.rules.proofs.Lists.{filled-some, is-false, is-true}
 use Rattle.rules.proofs.White.{EndsWithNone, form, bare, form-at, form-filled, form-length, front-trimmed}
 use Rattle.rules.proofs.White.{trimStart-step, trimStart-stop, trimEnd-step, trimEnd-stop}
-use Rattle.white.specs.White.{lastForm, formEnd, graphic}
+use Rattle.white.specs.White.{lastForm, formEnd, graphic, plain}
 use Rattle.white.proofs.Forms.{formAt-fits, form-at-most-three, high-longer, low-alone, part-front}
-use Rattle.white.proofs.Utf8.{low-passed}
+use Rattle.white.proofs.Utf8.{low-found, low-passed}
 use Rattle.rules.proofs.Parts.{rest}
 
 -- ---- a form at the end, or none
@@ -198,3 +198,47 @@ empty-place s h = at (trim s) h
     at : (t : List ℕ) → length t ≡ 0 → (if filled t then length s - length (trimStart s) else 0) ≡ 0
     at [] k = refl
     at (c ∷ t) k = absurd (omega arith)
+
+-- ---- as people write a value
+
+-- the first byte and the last are forms, and no other beside them
+plain-by : (s : List ℕ) → 3 ≤ length s → getD s 0 0 ≡ 0x20 → graphic (getD s 1 0) ≡ true → graphic (getD s (length s - 2) 0) ≡ true
+    → getD s (length s - 1) 0 ≡ 0x0a → (trimAt s ≡ 1) × (length (trim s) ≡ length s - 2)
+unfolding whiteSpace
+plain-by s h a b c d =
+    let n = length s in
+    let t = drop 1 s in
+    let size : length t ≡ n - 1 = length-drop 1 s in
+    let at : (k j : ℕ) → j ≡ 1 + k → getD t k 0 ≡ getD s j 0 = λ k j e. getD-drop 1 s k 0 ∙ ap (λ i. getD s i 0) (sym e) in
+    let front : 1 ≡ formAt s = low-found s (omega arith) (omega (arith, a)) (rw a) in
+    let turned : trimStart s ≡ trimStart t = start-turn s 0 1 front in
+    let start : 1 ≡ n - length (trimStart s) = start-stop s 1 (omega arith) turned (graphic-front s 1 (omega arith) b) in
+    let lf : getD t (length t - 1) 0 ≡ 0x0a = at (length t - 1) (n - 1) (omega (arith, size)) ∙ d in
+    let one : 1 ≡ formAt (drop (length t - 1) t) =
+    low-found (drop (length t - 1) t) (omega (arith, size, length-drop (length t - 1) t)) (omega (arith, part-front t (length t - 1), lf))
+    (rw (part-front t (length t - 1), lf)) in
+    let last : 1 ≡ formEnd t = one ∙ sym (low-last t (omega (arith, lf)) (omega (arith, size))) in
+    let whole : take (n - 1) t ≡ t = take-all (n - 1) t (omega (arith, size)) in
+    let less : n - 1 - 1 ≡ n - 2 = omega arith in
+    let turned-back : trimEnd t ≡ trimEnd (take (n - 2) t) = rw (whole, less) at (end-turn t (n - 1) 1 (omega (arith, size)) (rw whole last)) in
+    let bare : graphic (getD t (n - 2 - 1) 0) ≡ true = ap graphic (at (n - 2 - 1) (n - 2) (omega arith)) ∙ c in
+    let stop : n - 2 ≡ length (trimEnd t) = end-stop t (n - 2) (omega (arith, size)) turned-back (graphic-last t (n - 2) (omega arith) (omega (arith, size)) bare) in
+    let all : n - 2 ≡ length (trim s) = kept s start (rw whole stop) in
+    (kept-place s (omega (arith, all)) ∙ sym start, sym all)
+
+pub plain-long : (s : List ℕ) → plain s ≡ true → 3 ≤ length s
+plain-long s e =
+    let rest = ((eqb (getD s 0 0) 0x20 && graphic (getD s 1 0)) && graphic (getD s (length s - 2) 0)) && eqb (getD s (length s - 1) 0) 0x0a in
+    leb→le 3 (length s) (rw (both-hold (leb 3 (length s)) rest e .0) tt)
+
+pub plain-kept : (s : List ℕ) → plain s ≡ true → (trimAt s ≡ 1) × (length (trim s) ≡ length s - 2)
+plain-kept s e =
+    let a = eqb (getD s 0 0) 0x20 in
+    let b = graphic (getD s 1 0) in
+    let c = graphic (getD s (length s - 2) 0) in
+    let d = eqb (getD s (length s - 1) 0) 0x0a in
+    let (_, all) = both-hold (leb 3 (length s)) (((a && b) && c) && d) e in
+    let (three, fourth) = both-hold ((a && b) && c) d all in
+    let (two, third) = both-hold (a && b) c three in
+    let (first, second) = both-hold a b two in
+    plain-by s (plain-long s e) (eqb-true _ _ first) second third (eqb-true _ _ fourth)

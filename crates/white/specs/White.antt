@@ -4,8 +4,8 @@ use mathlib.Core.Bool.{Bool, _&&_}
 use mathlib.Core.List.{List, _++_}
 use mathlib.Core.Path.{_≡_}
 use Prim.Native.Nat.{ℕ, _-_, _<_}
-use lib.Dec.{eqb, ltb}
-use lib.ListN.{length, drop}
+use lib.Dec.{eqb, leb, ltb}
+use lib.ListN.{length, drop, getD}
 use Rattle.rules.specs.Bytes.{within}
 use Rattle.rules.specs.Lists.{if_then_else_}
 use Rattle.rules.specs.White.{utf8, formAt}
@@ -30,3 +30,9 @@ formEnd s = if lastForm 1 s then 1 else if lastForm 2 s then 2 else if lastForm 
 -- a byte above the space and below 0x80: no form begins or ends with it (proofs/Scan, graphic-front and graphic-last)
 abbrev pub graphic : ℕ → Bool
 graphic b = ltb 0x20 b && ltb b 0x80
+
+-- as people write a value: a space before a graphic byte, and an LF behind one
+abbrev pub plain : List ℕ → Bool
+plain s =
+    leb 3 (length s)
+    && (((eqb (getD s 0 0) 0x20 && graphic (getD s 1 0)) && graphic (getD s (length s - 2) 0)) && eqb (getD s (length s - 1) 0) 0x0a)

@@ -5,7 +5,7 @@ ghost use lib.Dec.{eqb};
 ghost use lib.ListN.{length, take, drop, getD};
 ghost use Rattle.rules.specs.Lists.{any};
 ghost use Rattle.rules.specs.White.{whiteSpace, formAt, trimStart, trimEnd, trim, trimAt};
-ghost use Rattle.white.specs.White.{carries, Decoded, lastForm, formEnd, graphic};
+ghost use Rattle.white.specs.White.{carries, Decoded, lastForm, formEnd, graphic, plain};
 use rules::Part;
 
 // White_Space of Unicode's PropList.txt, in its order. This table alone says what white space is.
@@ -273,4 +273,28 @@ pub fn trim(s: &[u8]) -> Part
         start: start,
         end: start + kept,
     }
+}
+
+// Whether an input is as people write a value: a space before a graphic byte, and an LF behind one.
+fn is_plain(s: &[u8]) -> bool
+    ensures { λ r. ⌜ r ≡ plain (now (s .entry)) ⌝ }
+{
+    let n = s.len();
+    if n < 3 {
+        return false;
+    }
+    (s[0] == b' ') & is_graphic(s[1]) & is_graphic(s[n - 2]) & (s[n - 1] == b'\n')
+}
+
+// The same part as `trim`'s, for a value or a line of one: most of them are told at once.
+pub fn trim_value(s: &[u8]) -> Part
+    ensures { λ r. ⌜ (r .start ≡ trimAt (now (s .entry))) × (r .end ≡ trimAt (now (s .entry)) + length (trim (now (s .entry)))) ⌝ }
+{
+    if is_plain(s) {
+        return Part {
+            start: 1,
+            end: s.len() - 1,
+        };
+    }
+    trim(s)
 }

@@ -38,18 +38,18 @@ returns c =
     let q = s .pre .1 ∙ lt-ltb _ _ (f .if1 .taken) in
     (u .unfold-value .ensures .0 ∙ value-folded (a .from) raw q (length (a .out .now)), u .unfold-value .ensures .1 ∙ buffer-folded (a .from) raw q (a .out .now))
 
-trim-requires : tie.Need-trim-requires
-trim-requires c κs = search needs
+trim-value-requires : tie.Need-trim-value-requires
+trim-value-requires c κs = search needs
 
 -- the part that trimming keeps lies in the raw value, and the raw value in the body
-inside : (t : tie.After-trim) → let a = start (t .before .before) .args in
-    (a .from + t .trim .result .start ≤ a .to) × (a .from + t .trim .result .end ≤ a .to)
+inside : (t : tie.After-trim-value) → let a = start (t .before .before) .args in
+    (a .from + t .trim-value .result .start ≤ a .to) × (a .from + t .trim-value .result .end ≤ a .to)
 inside t =
     let s = start (t .before .before) in
     let a = s .args in
     let rest = drop (a .from) (a .body .now) in
     let size = length-take-le (a .to - a .from) rest (omega (arith, length-drop (a .from) (a .body .now), s .pre)) in
-    omega (arith, size, trim-fits (take (a .to - a .from) rest), t .trim .ensures, s .pre)
+    omega (arith, size, trim-fits (take (a .to - a .from) rest), t .trim-value .ensures, s .pre)
 
 add-start : tie.Need-add-start
 add-start c = omega (arith, inside (c .before))
@@ -63,7 +63,7 @@ returns-2 c =
     let a = s .args in
     let raw = take (a .to - a .from) (drop (a .from) (a .body .now)) in
     let q = s .pre .1 ∙ le-ltb _ _ (t .before .if1 .left) in
-    (rw (t .trim .ensures .0, t .trim .ensures .1) (value-part (a .from) raw q (length (a .out .now))), buffer-part (a .from) raw q (a .out .now))
+    (rw (t .trim-value .ensures .0, t .trim-value .ensures .1) (value-part (a .from) raw q (length (a .out .now))), buffer-part (a .from) raw q (a .out .now))
 
 pub read-value-spec : {M : Type 1} → statement M
 read-value-spec =
@@ -75,7 +75,7 @@ read-value-spec =
     unfold-value-requires
     same-length
     returns
-    trim-requires
+    trim-value-requires
     add-start
     add-end
     returns-2)

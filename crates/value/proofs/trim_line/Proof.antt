@@ -6,8 +6,8 @@ use Rattle.rules.proofs.Parts.{kept-part}
 use Rattle.value.proofs.trim_line.Statement.{statement}
 use Rattle.value.proofs.trim_line.Tie as tie
 
-trim-requires : tie.Need-trim-requires
-trim-requires c κs = search needs
+trim-value-requires : tie.Need-trim-value-requires
+trim-value-requires c κs = search needs
 
 sub-result : tie.Need-sub-result
 sub-result c = search needs
@@ -19,8 +19,8 @@ part-result-end : tie.Need-part-result-end
 part-result-end c = omega (arith, trim-fits (c .before .before .args .line .now))
 
 returns : tie.Need-returns
-returns c = kept-part (c .before .before .before .args .line .now) (c .before .trim .ensures)
+returns c = kept-part (c .before .before .before .args .line .now) (c .before .trim-value .ensures)
 
 pub trim-line-spec : {M : Type 1} → statement M
 trim-line-spec =
-    tie.close (tie.spec trim-requires sub-result part-result-start part-result-end returns)
+    tie.close (tie.spec trim-value-requires sub-result part-result-start part-result-end returns)

@@ -1,0 +1,53 @@
+-- `white::is_plain` meets its contract. Assumes nothing.
+use mathlib.Core.Path.{refl}
+use borrow.Author.Tests.{le-leb, lt-leb}
+use borrow.Author.Needs.{needs}
+use Rattle.white.proofs.is_plain.Statement.{statement}
+use Rattle.white.proofs.is_plain.Tie as tie
+
+returns : tie.Need-returns
+returns c = rw (lt-leb _ _ (c .if1 .taken))
+
+shared-slice-read-result : tie.Need-shared-slice-read-result
+shared-slice-read-result c = search needs
+
+shared-slice-read-is-graphic : tie.Need-shared-slice-read-is-graphic
+shared-slice-read-is-graphic c = search needs
+
+is-graphic-requires : tie.Need-is-graphic-requires
+is-graphic-requires c κs = search needs
+
+sub-is-graphic : tie.Need-sub-is-graphic
+sub-is-graphic c = search needs
+
+shared-slice-read-is-graphic-2 : tie.Need-shared-slice-read-is-graphic-2
+shared-slice-read-is-graphic-2 c = search needs
+
+is-graphic-requires-2 : tie.Need-is-graphic-requires-2
+is-graphic-requires-2 c κs = search needs
+
+sub-result : tie.Need-sub-result
+sub-result c = search needs
+
+shared-slice-read-result-2 : tie.Need-shared-slice-read-result-2
+shared-slice-read-result-2 c = search needs
+
+returns-2 : tie.Need-returns-2
+returns-2 c =
+    let second = c .before in let first = second .before .before in let e = first .before .before .before in
+    rw (le-leb _ _ (e .if1 .left), first .is-graphic .ensures, second .is-graphic2 .ensures) refl
+
+pub is-plain-spec : {M : Type 1} → statement M
+is-plain-spec =
+    tie.close
+    (tie.spec
+    returns
+    shared-slice-read-result
+    shared-slice-read-is-graphic
+    is-graphic-requires
+    sub-is-graphic
+    shared-slice-read-is-graphic-2
+    is-graphic-requires-2
+    sub-result
+    shared-slice-read-result-2
+    returns-2)
