@@ -14,7 +14,7 @@ use Rattle.rules.specs.White.{whiteSpace, Form, formAt, trimStart, trimEnd, tri
 use Rattle.rules.proofs.Lists.{filled-some, is-false, is-true}
 use Rattle.rules.proofs.White.{EndsWithNone, form, bare, form-at, form-filled, form-length, front-trimmed}
 use Rattle.rules.proofs.White.{trimStart-step, trimStart-stop, trimEnd-step, trimEnd-stop}
-use Rattle.white.specs.White.{lastForm, formEnd, graphic, plain}
+use Rattle.white.specs.White.{lastForm, formEnd, graphic, plain, solid}
 use Rattle.white.proofs.Forms.{formAt-fits, form-at-most-three, high-longer, low-alone, part-front}
 use Rattle.white.proofs.Utf8.{low-found, low-passed}
 use Rattle.rules.proofs.Parts.{rest}
@@ -198,6 +198,22 @@ empty-place s h = at (trim s) h
     at : (t : List ℕ) → length t ≡ 0 → (if filled t then length s - length (trimStart s) else 0) ≡ 0
     at [] k = refl
     at (c ∷ t) k = absurd (omega arith)
+
+-- ---- between graphic bytes
+
+pub solid-kept : (s : List ℕ) → solid s ≡ true → (trimAt s ≡ 0) × (length (trim s) ≡ length s)
+solid-kept s e =
+    let n = length s in
+    let a = graphic (getD s 0 0) in
+    let b = graphic (getD s (n - 1) 0) in
+    let (some, ends) = both-hold (leb 1 n) (a && b) e in
+    let (first, last) = both-hold a b ends in
+    let h : 1 ≤ n = leb→le 1 n (rw some tt) in
+    let start : 0 ≡ n - length (trimStart s) = start-stop s 0 (omega arith) refl (graphic-front s 0 (omega arith) first) in
+    let stop : n ≡ length (trimEnd s) =
+    end-stop s n (omega arith) (rw (take-all n s (omega arith))) (graphic-last s n (omega arith) (omega arith) last) in
+    let all : n ≡ length (trim s) = kept s start (rw (rest s 0) stop) in
+    (kept-place s (omega (arith, all)) ∙ sym start, sym all)
 
 -- ---- as people write a value
 

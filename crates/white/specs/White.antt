@@ -31,6 +31,10 @@ formEnd s = if lastForm 1 s then 1 else if lastForm 2 s then 2 else if lastForm 
 abbrev pub graphic : ℕ → Bool
 graphic b = ltb 0x20 b && ltb b 0x80
 
+-- it begins and ends with a graphic byte, so that nothing of it goes (proofs/Scan, solid-kept)
+abbrev pub solid : List ℕ → Bool
+solid s = leb 1 (length s) && (graphic (getD s 0 0) && graphic (getD s (length s - 1) 0))
+
 -- as people write a value: a space before a graphic byte, and an LF behind one
 abbrev pub plain : List ℕ → Bool
 plain s =

@@ -5,7 +5,7 @@ ghost use lib.Dec.{eqb};
 ghost use lib.ListN.{length, take, drop, getD};
 ghost use Rattle.rules.specs.Lists.{any};
 ghost use Rattle.rules.specs.White.{whiteSpace, formAt, trimStart, trimEnd, trim, trimAt};
-ghost use Rattle.white.specs.White.{carries, Decoded, lastForm, formEnd, graphic, plain};
+ghost use Rattle.white.specs.White.{carries, Decoded, lastForm, formEnd, graphic, plain, solid};
 use rules::Part;
 
 // White_Space of Unicode's PropList.txt, in its order. This table alone says what white space is.
@@ -273,6 +273,30 @@ pub fn trim(s: &[u8]) -> Part
         start: start,
         end: start + kept,
     }
+}
+
+// Whether an input begins and ends with a graphic byte.
+fn is_solid(s: &[u8]) -> bool
+    ensures { λ r. ⌜ r ≡ solid (now (s .entry)) ⌝ }
+{
+    let n = s.len();
+    if n < 1 {
+        return false;
+    }
+    is_graphic(s[0]) & is_graphic(s[n - 1])
+}
+
+// The same part as `trim`'s, for a title or a message: of most titles nothing goes.
+pub fn trim_text(s: &[u8]) -> Part
+    ensures { λ r. ⌜ (r .start ≡ trimAt (now (s .entry))) × (r .end ≡ trimAt (now (s .entry)) + length (trim (now (s .entry)))) ⌝ }
+{
+    if is_solid(s) {
+        return Part {
+            start: 0,
+            end: s.len(),
+        };
+    }
+    trim(s)
 }
 
 // Whether an input is as people write a value: a space before a graphic byte, and an LF behind one.
