@@ -13,10 +13,10 @@ use rules::Refusal;
 use rules::Value;
 use rules::ValueFound;
 use rules::WalkFound;
-use summary::is_written;
+use summary::first_lf;
 use summary::summarise;
 use title::title_and_body;
-use white::trim;
+use white::trim_text;
 
 // The summary of a whole message, by the rule for a title. It is not always that of its title, since the body is read too.
 pub fn message_summary(message: &[u8], out: &mut [u8]) -> ValueFound
@@ -47,12 +47,13 @@ pub fn summary(title: &[u8], out: &mut [u8]) -> ValueFound
     if title.len() > LIMIT {
         return ValueFound::Refused(Refusal::TooLong);
     }
-    let part = trim(title);
+    let part = trim_text(title);
     let start = part.start;
     let end = part.end;
     let message = &title[start..end];
-    if is_written(message) {
-        return summarise(message, out);
+    let first = first_lf(message);
+    if first < message.len() {
+        return summarise(message, first, out);
     }
     ValueFound::At(Value::InInput(Part { start, end }))
 }

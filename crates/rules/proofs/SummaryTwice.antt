@@ -18,7 +18,7 @@ use Rattle.rules.proofs.White.{BeginsWithNone, EndsWithNone, nil-begins
 
 -- ---- the pieces with an LF between each two are the input, and none holds an LF
 
-abbrev byLfs : List (List ℕ) → List ℕ
+abbrev pub byLfs : List (List ℕ) → List ℕ
 byLfs [] = []
 byLfs (p ∷ []) = p
 byLfs (p ∷ q ∷ ps) = p ++ LF ∷ byLfs (q ∷ ps)
@@ -50,7 +50,7 @@ ahead-joined true c q qs e = let h : c ≡ LF = eqb→eq c LF (rw (← e) tt) in
 ahead-joined false c q [] e = refl
 ahead-joined false c q (p ∷ qs) e = refl
 
-pieces-joined : (s : List ℕ) → byLfs (pieces s) ≡ s
+pub pieces-joined : (s : List ℕ) → byLfs (pieces s) ≡ s
 pieces-joined [] = refl
 pieces-joined (c ∷ s) =
     let (q, qs, e) = pieces-some s in
@@ -73,7 +73,7 @@ pieces-inner (c ∷ s) = ahead-inner (eqb c LF) c (pieces s) refl (pieces-inner 
 -- ---- no LF is left: each becomes a space, or the summary stops there
 
 -- what is dropped stands behind what is left
-dropped : (p : List ℕ) → (blanks : List ℕ) × (p ≡ dropBlanks p ++ blanks)
+pub dropped : (p : List ℕ) → (blanks : List ℕ) × (p ≡ dropBlanks p ++ blanks)
 dropped [] = ([], refl)
 dropped (c ∷ p) = at (all blankByte (c ∷ p)) (dropped p)
   where
@@ -112,7 +112,7 @@ summary-no-lf s = spaced-inner (stops (pieces (trim s))) (pieces (trim s)) (piec
 
 -- ---- it begins with no white space: something is left of the first piece, which is the front of what was trimmed
 
-blank-form : (c : ℕ) → T (blankByte c) → Form (c ∷ [])
+pub blank-form : (c : ℕ) → T (blankByte c) → Form (c ∷ [])
 unfolding blankByte forms whiteSpace
 blank-form c t =
     let found : (k : ℕ) → Form (k ∷ []) → T (eqb c k) → Form (c ∷ []) = λ k m e. rw (eqb→eq c k e) m in
@@ -172,7 +172,7 @@ added-filled p [] [] n = absurd (n (LF ∷ []) p lf-form refl)
 added-filled p (c ∷ q) [] n = tt
 added-filled p q (r ∷ ps) n = filled-append (folded q) (added (r ∷ ps)) (folded-filled q)
 
-added-ends : (ps : List (List ℕ)) (p : List ℕ) → EndsWithNone (byLfs (p ∷ ps)) → EndsWithNone (added (p ∷ ps))
+pub added-ends : (ps : List (List ℕ)) (p : List ℕ) → EndsWithNone (byLfs (p ∷ ps)) → EndsWithNone (added (p ∷ ps))
 added-ends [] p n = n
 added-ends (q ∷ ps) p n =
     let rest : List ℕ = added (q ∷ ps) in

@@ -1,8 +1,7 @@
--- Laws of the pieces, of the white space at their end, and of a pass over them.
+-- Laws of bytes that an LF follows, of the pieces, and of what they add up to, byte by byte.
 pub mod Blanks
-pub mod Ends
+pub mod Followed
 pub mod Pieces
-pub mod Pass
 pub mod Put
-pub mod Written
-pub mod Plain
+pub mod InOne
+pub mod Stop

@@ -1,6 +1,6 @@
 -- The pieces of an input one after the other, by the places of the LFs. Assumes nothing.
 use mathlib.Core.Bool.{Bool, true, false, not}
-use mathlib.Core.List.{List, [], _∷_}
+use mathlib.Core.List.{List, [], _∷_, _++_}
 use mathlib.Core.Path.{_≡_, refl, ap}
 use Prim.Native.Nat.{ℕ, suc, _+_, _-_, _≤_, _<_}
 use native.Mathlib.Omega.{arith}
@@ -10,7 +10,7 @@ use lib.Seq.{length-take-le, drop-drop}
 use Rattle.rules.specs.Bytes.{LF}
 use Rattle.rules.specs.Lines.{inner}
 use Rattle.rules.specs.Lists.{if_then_else_, run}
-use Rattle.rules.specs.Summary.{ahead, pieces}
+use Rattle.rules.specs.Summary.{added, ahead, folded, pieces}
 use Rattle.rules.proofs.Lists.{run-past}
 
 -- there is a piece
@@ -63,3 +63,10 @@ module _ (s : List ℕ) (at pos : ℕ) (e : pos ≡ at + length (run inner (drop
 
   pub last-piece-at : length s ≤ pos → pieces (drop at s) ≡ drop at s ∷ []
   last-piece-at h = last-piece (drop at s) (omega (arith, length-drop at s))
+
+  -- what they add up to
+  pub added-at : pos < length s → added (pieces (drop at s)) ≡ folded (piece s at pos) ++ added (pieces (drop (pos + 1) s))
+  added-at h = let (q, ps, o) = some-piece (drop (pos + 1) s) in rw (piece-at h, o)
+
+  pub added-last : length s ≤ pos → added (pieces (drop at s)) ≡ drop at s
+  added-last h = rw (last-piece-at h)

@@ -1,12 +1,16 @@
-// Summaries: the loops of the original's `summary`, for a message that is trimmed. There is no heap: the length is found first,
-// then the answer is written to the buffer's front.
-ghost use mathlib.Core.Bool.{true};
-ghost use mathlib.Core.List.{[], _++_};
+// Summaries: the loops of the original's `summary`, for a message that is trimmed. There is no heap: where the summary stops and whether blanks
+// go is found first, then the answer is written to the buffer's front.
+ghost use mathlib.Core.Bool.{false, not};
+ghost use mathlib.Core.List.{_++_};
 ghost use mathlib.Core.Path.{_≡_};
-ghost use Prim.Native.Nat.{_+_, _-_, _≤_};
-ghost use lib.ListN.{length, take, drop};
+ghost use Prim.Native.Nat.{_+_, _≤_};
+ghost use lib.Dec.{ltb};
+ghost use lib.ListN.{length, drop};
 ghost use Rattle.rules.specs.Record.{fitted, writtenFound};
-ghost use Rattle.rules.specs.Summary.{dropBlanks, folded, pieces, spaced, many};
+ghost use Rattle.rules.specs.Summary.{added, dropBlanks, folded, pieces, spaced, many};
+ghost use Rattle.rules.specs.White.{trim};
+ghost use Rattle.find.specs.Find.{untilLF};
+ghost use Rattle.summary.specs.Followed.{anyFollowed, followed, untilFollowed};
 ghost use Rattle.summary.specs.Put.{put};
 ghost use Rattle.summary.specs.Spaces.{spaceForLF, withSpaces};
 use copy::copy_at;
@@ -18,100 +22,78 @@ use rules::ValueFound;
 use text::line::is_ascii_whitespace;
 use white::trim_end;
 
-// The length of a piece without the ASCII blanks at its end.
-fn trim_blanks(piece: &[u8]) -> usize
-    ensures { λ r. ⌜ r ≡ length (dropBlanks (now (piece .entry))) ⌝ }
+// ---- bytes that an LF follows
+
+// How many bytes of a run are looked at: an LF may stand behind each.
+const RUN: usize = 16;
+
+// Whether a byte is from `low` to `high`, and the next one an LF.
+fn is_followed(byte: u8, next: u8, low: u8, high: u8) -> bool
+    ensures { λ r. ⌜ r ≡ followed low high byte next ⌝ }
 {
-    let mut n = piece.len();
-    while n > 0 {
-        if !is_ascii_whitespace(piece[n - 1]) {
-            return n;
+    (low <= byte) & (byte <= high) & (next == b'\n')
+}
+
+// Whether an LF directly follows a byte from `low` to `high`. All bytes are read, so that the compiler reads many at once.
+fn has_followed(run: &[u8], low: u8, high: u8) -> bool
+    ensures { λ r. ⌜ r ≡ anyFollowed low high (now (run .entry)) ⌝ }
+{
+    let mut found = false;
+    let mut i = 0;
+    while run.len() - i > 1 {
+        found = found | is_followed(run[i], run[i + 1], low, high);
+        i += 1;
+    }
+    found
+}
+
+// Where the runs from `at` on end that have no such byte.
+fn past_runs(s: &[u8], at: usize, low: u8, high: u8) -> usize
+    requires { ⌜ at ≤ length (now s) ⌝ }
+    ensures { λ r. ⌜ (r ≤ length (now (s .entry))) × (r + untilFollowed low high (drop r (now (s .entry))) ≡ at + untilFollowed low high (drop at (now (s .entry)))) ⌝ }
+{
+    let mut i = at;
+    while s.len() - i > RUN {
+        if has_followed(&s[i..i + RUN + 1], low, high) {
+            return i;
         }
-        n -= 1;
+        i += RUN;
     }
-    0
+    i
 }
 
-// Whether an LF is left in a message that is trimmed, so that its summary is written.
-pub fn is_written(message: &[u8]) -> bool
-    ensures { λ r. ⌜ r ≡ many (pieces (now (message .entry))) ⌝ }
+// The place of the first byte from `at` on that is from `low` to `high` and directly followed by an LF; the end where there is none. The byte at
+// `at` is looked at first: behind the first LF of most messages stands another.
+fn find_followed(s: &[u8], at: usize, low: u8, high: u8) -> usize
+    requires { ⌜ at ≤ length (now s) ⌝ }
+    ensures { λ r. ⌜ r ≡ at + untilFollowed low high (drop at (now (s .entry))) ⌝ }
 {
-    find_lf(message, 0) < message.len()
-}
-
-// The length of the summary of a message that is trimmed. The pieces before `at` have `len` bytes folded, of which `kept` stay
-// where the end is trimmed; the next piece is from `at` to `pos`.
-fn summary_len(message: &[u8]) -> usize
-    ensures { λ r. ⌜ r ≡ length (spaced (pieces (now (message .entry)))) ⌝ }
-{
-    let mut len = 0;
-    let mut kept = 0;
-    let mut at = 0;
-    let mut pos = find_lf(message, 0);
-    while pos < message.len() {
-        if pos == at {
-            return kept;
+    if s.len() - at > 1 {
+        if is_followed(s[at], s[at + 1], low, high) {
+            return at;
         }
-        let piece = &message[at..pos];
-        let n = trim_end(piece);
-        if n > 0 {
-            kept = len + n;
+    }
+    let mut i = past_runs(s, at, low, high);
+    while s.len() - i > 1 {
+        if is_followed(s[i], s[i + 1], low, high) {
+            return i;
         }
-        len += trim_blanks(piece) + 1;
-        at = pos + 1;
-        pos = find_lf(message, at);
+        i += 1;
     }
-    len + (pos - at)
+    s.len()
 }
 
-// Writes `src` to `out` from `at` on, but nothing from `end` on; gives where that ends.
-fn copy_to(src: &[u8], out: &mut [u8], at: usize, end: usize) -> usize
-    requires { ⌜ (at ≤ end) × (end ≤ length (now out)) ⌝ }
-    ensures { λ r. ⌜ r ≡ at + length (take (end - at) (now (src .entry))) ⌝ }
-    ensures { λ _. ⌜ now (out .exit) ≡ put (now (out .entry)) at (take (end - at) (now (src .entry))) ⌝ }
-{
-    let room = end - at;
-    if room < src.len() {
-        copy_at(&src[..room], out, at);
-        return end;
-    }
-    copy_at(src, out, at);
-    at + src.len()
-}
+// ---- a text without blanks before its LFs
 
-// Writes `piece` folded, in the same way.
-fn fold_to(piece: &[u8], out: &mut [u8], at: usize, end: usize) -> usize
-    requires { ⌜ (at ≤ end) × (end ≤ length (now out)) ⌝ }
-    ensures { λ r. ⌜ r ≡ at + length (take (end - at) (folded (now (piece .entry)))) ⌝ }
-    ensures { λ _. ⌜ now (out .exit) ≡ put (now (out .entry)) at (take (end - at) (folded (now (piece .entry)))) ⌝ }
+// Whether no blank stands directly before an LF: no byte up to the space does. The first LF is at `first`, or there is none.
+fn is_plain(text: &[u8], first: usize) -> bool
+    requires { ⌜ (length (now text) ≤ first → anyFollowed 0 32 (now text) ≡ false) ⌝ }
+    ensures { λ r. ⌜ r ≡ not (anyFollowed 0 32 (now (text .entry))) ⌝ }
 {
-    let len = trim_blanks(piece);
-    let i = copy_to(&piece[..len], out, at, end);
-    if i == end {
-        return end;
+    if text.len() <= first {
+        return true;
     }
-    out[i] = b' ';
-    i + 1
-}
-
-// Writes the summary of a message that is trimmed to the front of `out`; `n` is its length.
-fn summarise_into(message: &[u8], out: &mut [u8], n: usize)
-    requires { ⌜ n ≡ length (spaced (pieces (now message))) ⌝ }
-    requires { ⌜ n ≤ length (now out) ⌝ }
-    ensures { λ _. ⌜ now (out .exit) ≡ spaced (pieces (now (message .entry))) ++ drop (length (spaced (pieces (now (message .entry))))) (now (out .entry)) ⌝ }
-{
-    let mut len = 0;
-    let mut at = 0;
-    let mut pos = find_lf(message, 0);
-    while pos < message.len() {
-        if len == n {
-            return;
-        }
-        len = fold_to(&message[at..pos], out, len, n);
-        at = pos + 1;
-        pos = find_lf(message, at);
-    }
-    copy_to(&message[at..], out, len, n);
+    find_followed(text, 0, 0, b' ') == text.len()
 }
 
 // An LF as a space, every other byte as it is.
@@ -136,32 +118,132 @@ fn copy_with_spaces(message: &[u8], out: &mut [u8])
     }
 }
 
-// Writes the summary of a message that is trimmed to the front of `out`; `n` is its length. Where that is the message's, no blank
-// is dropped and nothing stops it.
-fn write_summary(message: &[u8], out: &mut [u8], n: usize)
-    requires { ⌜ n ≡ length (spaced (pieces (now message))) ⌝ }
-    requires { ⌜ n ≤ length (now out) ⌝ }
-    ensures { λ _. ⌜ now (out .exit) ≡ spaced (pieces (now (message .entry))) ++ drop (length (spaced (pieces (now (message .entry))))) (now (out .entry)) ⌝ }
+// The pieces of such a text, written to the front of `out` where there is room: a space for each LF, and nothing goes.
+fn write_plain(text: &[u8], out: &mut [u8]) -> ValueFound
+    requires { ⌜ anyFollowed 0 32 (now text) ≡ false ⌝ }
+    ensures { λ r. ⌜ r ≡ writtenFound (added (pieces (now (text .entry)))) (length (now (out .entry))) ⌝ }
+    ensures { λ _. ⌜ now (out .exit) ≡ fitted (added (pieces (now (text .entry)))) (now (out .entry)) ⌝ }
 {
-    if n == message.len() {
-        copy_with_spaces(message, out);
-        return;
-    }
-    summarise_into(message, out, n);
-}
-
-// The summary of a message that is trimmed and has an LF left: written to the front of `out`, where there is room.
-pub fn summarise(message: &[u8], out: &mut [u8]) -> ValueFound
-    ensures { λ r. ⌜ r ≡ writtenFound (spaced (pieces (now (message .entry)))) (length (now (out .entry))) ⌝ }
-    ensures { λ _. ⌜ now (out .exit) ≡ fitted (spaced (pieces (now (message .entry)))) (now (out .entry)) ⌝ }
-{
-    let needed = summary_len(message);
+    let needed = text.len();
     if out.len() < needed {
         return ValueFound::Refused(Refusal::NoRoom(needed));
     }
-    write_summary(message, out, needed);
+    copy_with_spaces(text, out);
     ValueFound::At(Value::InBuffer(Part {
         start: 0,
         end: needed,
     }))
+}
+
+// ---- any other text, piece by piece
+
+// The length of a piece without the ASCII blanks at its end.
+fn trim_blanks(piece: &[u8]) -> usize
+    ensures { λ r. ⌜ r ≡ length (dropBlanks (now (piece .entry))) ⌝ }
+{
+    let mut n = piece.len();
+    while n > 0 {
+        if !is_ascii_whitespace(piece[n - 1]) {
+            return n;
+        }
+        n -= 1;
+    }
+    0
+}
+
+// The length of a text's pieces, folded and added.
+fn folded_len(text: &[u8]) -> usize
+    ensures { λ r. ⌜ r ≡ length (added (pieces (now (text .entry)))) ⌝ }
+{
+    let mut len = 0;
+    let mut at = 0;
+    let mut pos = find_lf(text, 0);
+    while pos < text.len() {
+        len += trim_blanks(&text[at..pos]) + 1;
+        at = pos + 1;
+        pos = find_lf(text, at);
+    }
+    len + (pos - at)
+}
+
+// Writes `piece` folded to `out` from `at` on; gives where that ends.
+fn fold_to(piece: &[u8], out: &mut [u8], at: usize) -> usize
+    requires { ⌜ at + length (folded (now piece)) ≤ length (now out) ⌝ }
+    ensures { λ r. ⌜ r ≡ at + length (folded (now (piece .entry))) ⌝ }
+    ensures { λ _. ⌜ now (out .exit) ≡ put (now (out .entry)) at (folded (now (piece .entry))) ⌝ }
+{
+    let len = trim_blanks(piece);
+    copy_at(&piece[..len], out, at);
+    let end = at + len;
+    out[end] = b' ';
+    end + 1
+}
+
+// Writes a text's pieces, folded and added, to the front of `out`; gives their length.
+fn fold_into(text: &[u8], out: &mut [u8]) -> usize
+    requires { ⌜ length (added (pieces (now text))) ≤ length (now out) ⌝ }
+    ensures { λ r. ⌜ r ≡ length (added (pieces (now (text .entry)))) ⌝ }
+    ensures { λ _. ⌜ now (out .exit) ≡ added (pieces (now (text .entry))) ++ drop (length (added (pieces (now (text .entry))))) (now (out .entry)) ⌝ }
+{
+    let mut len = 0;
+    let mut at = 0;
+    let mut pos = find_lf(text, 0);
+    while pos < text.len() {
+        len = fold_to(&text[at..pos], out, len);
+        at = pos + 1;
+        pos = find_lf(text, at);
+    }
+    copy_at(&text[at..], out, len);
+    len + (pos - at)
+}
+
+// The pieces of a text that fit, written.
+fn fold_fitting(text: &[u8], out: &mut [u8]) -> ValueFound
+    requires { ⌜ length (added (pieces (now text))) ≤ length (now out) ⌝ }
+    ensures { λ r. ⌜ r ≡ writtenFound (added (pieces (now (text .entry)))) (length (now (out .entry))) ⌝ }
+    ensures { λ _. ⌜ now (out .exit) ≡ fitted (added (pieces (now (text .entry)))) (now (out .entry)) ⌝ }
+{
+    let end = fold_into(text, out);
+    ValueFound::At(Value::InBuffer(Part { start: 0, end }))
+}
+
+// The pieces of a text, folded and added, written to the front of `out` where there is room. They are never longer than the text, so their
+// length is found only where that does not fit.
+fn write_folded(text: &[u8], out: &mut [u8]) -> ValueFound
+    ensures { λ r. ⌜ r ≡ writtenFound (added (pieces (now (text .entry)))) (length (now (out .entry))) ⌝ }
+    ensures { λ _. ⌜ now (out .exit) ≡ fitted (added (pieces (now (text .entry)))) (now (out .entry)) ⌝ }
+{
+    if text.len() <= out.len() {
+        return fold_fitting(text, out);
+    }
+    let needed = folded_len(text);
+    if out.len() < needed {
+        return ValueFound::Refused(Refusal::NoRoom(needed));
+    }
+    fold_fitting(text, out)
+}
+
+// ---- the summary
+
+// The place of the first LF of a message that is trimmed; its summary is written where there is one.
+pub fn first_lf(message: &[u8]) -> usize
+    ensures { λ r. ⌜ (r ≡ untilLF (now (message .entry))) × (ltb r (length (now (message .entry))) ≡ many (pieces (now (message .entry)))) ⌝ }
+{
+    find_lf(message, 0)
+}
+
+// The summary of a message that is trimmed and has its first LF at `first`: written to the front of `out`, where there is room. What is
+// folded ends where an LF directly follows an LF, and is trimmed there.
+pub fn summarise(message: &[u8], first: usize, out: &mut [u8]) -> ValueFound
+    requires { ⌜ (trim (now message) ≡ now message) × (first ≡ untilLF (now message)) ⌝ }
+    ensures { λ r. ⌜ r ≡ writtenFound (spaced (pieces (now (message .entry)))) (length (now (out .entry))) ⌝ }
+    ensures { λ _. ⌜ now (out .exit) ≡ fitted (spaced (pieces (now (message .entry)))) (now (out .entry)) ⌝ }
+{
+    let end = find_followed(message, first, b'\n', b'\n');
+    let kept = trim_end(&message[..end]);
+    let text = &message[..kept];
+    if is_plain(text, first) {
+        return write_plain(text, out);
+    }
+    write_folded(text, out)
 }

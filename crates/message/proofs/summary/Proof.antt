@@ -4,7 +4,7 @@ use native.Mathlib.Omega.{arith}
 use borrow.Author.Needs.{needs}
 use borrow.Author.Tests.{lt-ltb, le-ltb}
 use lib.ListN.{length}
-use Rattle.rules.proofs.White.{trim-fits}
+use Rattle.rules.proofs.White.{trim-fits, trim-idempotent}
 use Rattle.rules.specs.Answers.{limit, valueFoundSays}
 use Rattle.rules.proofs.Parts.{kept-part}
 use Rattle.message.proofs.Summarised.{summary-folded, summary-left, summary-part, summary-keeps}
@@ -14,11 +14,11 @@ use Rattle.message.proofs.summary.Tie as tie
 returns : tie.Need-returns
 returns c = let k = lt-ltb limit _ (c .if1 .taken) in (rw k, rw k)
 
-trim-requires : tie.Need-trim-requires
-trim-requires c κs = search needs
+trim-text-requires : tie.Need-trim-text-requires
+trim-text-requires c κs = search needs
 
 -- the start, from where the title is trimmed
-abbrev start : tie.After-trim → tie.Start
+abbrev start : tie.After-trim-text → tie.Start
 start t = let fits = t .before in fits .before .before .before
 
 sub-message : tie.Need-sub-message
@@ -28,13 +28,16 @@ part-message-start : tie.Need-part-message-start
 part-message-start c = search needs
 
 part-message-end : tie.Need-part-message-end
-part-message-end c = omega (arith, trim-fits (start c .args .title .now), c .trim .ensures)
+part-message-end c = omega (arith, trim-fits (start c .args .title .now), c .trim-text .ensures)
 
-is-written-requires : tie.Need-is-written-requires
-is-written-requires c κs = search needs
+first-lf-requires : tie.Need-first-lf-requires
+first-lf-requires c κs = search needs
 
 summarise-requires : tie.Need-summarise-requires
-summarise-requires c κs = search needs
+summarise-requires c κs =
+    let f = c .before .before in let t = f .before .before in
+    let title = start t .args .title .now in
+    (rw (kept-part title (t .trim-text .ensures)) (trim-idempotent title .0), f .first-lf .ensures .0)
 
 same-length : tie.Need-same-length
 same-length c = search needs
@@ -45,8 +48,8 @@ returns-2 c =
     let title = start t .args .title .now in
     let out = start t .args .out .now in
     let short = le-ltb limit _ (t .before .if1 .left) in
-    let kept = kept-part title (t .trim .ensures) in
-    let q = sym (folded .before .is-written .ensures) ∙ folded .if2 .taken in (
+    let kept = kept-part title (t .trim-text .ensures) in
+    let q = sym (folded .before .first-lf .ensures .1) ∙ lt-ltb _ _ (folded .if2 .taken) in (
       ap valueFoundSays (r .summarise .ensures .0) ∙ summary-folded title short kept q (length out),
       r .summarise .ensures .1 ∙ summary-left title short kept q out,
     )
@@ -57,9 +60,9 @@ returns-3 c =
     let title = start t .args .title .now in
     let out = start t .args .out .now in
     let short = le-ltb limit _ (t .before .if1 .left) in
-    let part = t .trim .ensures in
+    let part = t .trim-text .ensures in
     let kept = kept-part title part in
-    let q = sym (c .before .is-written .ensures) ∙ c .if2 .left in
+    let q = sym (c .before .first-lf .ensures .1) ∙ le-ltb _ _ (c .if2 .left) in
     (rw (part .0, part .1) (summary-part title short kept q (length out)), summary-keeps title short kept q out)
 
 pub summary-spec : {M : Type 1} → statement M
@@ -67,11 +70,11 @@ summary-spec =
     tie.close
     (tie.spec
     returns
-    trim-requires
+    trim-text-requires
     sub-message
     part-message-start
     part-message-end
-    is-written-requires
+    first-lf-requires
     summarise-requires
     same-length
     returns-2

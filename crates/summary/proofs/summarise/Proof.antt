@@ -1,31 +1,99 @@
--- `summary::summarise` meets its contract: refusal 3 with the length found, or all of it written. Assumes nothing.
+-- `summary::summarise` meets its contract. Assumes nothing.
+use mathlib.Core.Bool.{Bool, true, false, false≢true, not}
+use mathlib.Core.Path.{_≡_, refl, sym, _∙_}
+use Prim.Native.Nat.{_≤_}
+use native.Mathlib.Omega.{arith}
 use borrow.Author.Needs.{needs}
-use borrow.Author.Tests.{lt-ltb, le-ltb}
+use lib.ListN.{length, take}
+use lib.Seq.{length-take-le}
+use Rattle.rules.specs.Summary.{added, pieces, spaced}
+use Rattle.summary.specs.Followed.{anyFollowed}
+use Rattle.summary.proofs.Followed.{no-lf-none}
+use Rattle.summary.proofs.Pieces.{found-within}
+use Rattle.summary.proofs.Stop.{kept-fits, kept-summary, stop-fits}
 use Rattle.summary.proofs.summarise.Statement.{statement}
 use Rattle.summary.proofs.summarise.Tie as tie
 
-summary-len-requires : tie.Need-summary-len-requires
-summary-len-requires c κs = search needs
+not-true : (b : Bool) → not b ≡ true → b ≡ false
+not-true true e = absurd (false≢true e)
+not-true false e = refl
 
-returns : tie.Need-returns
-returns c =
-    let e = c .before .summary-len .ensures in
-    let k = lt-ltb _ _ (rw e at (c .if1 .taken)) in
-    (rw (k, e), rw k)
+find-followed-requires : tie.Need-find-followed-requires
+find-followed-requires c κs =
+    let a = c .before .before in
+    found-within (a .args .message .now) 0 (a .args .first) (omega (arith, a .pre .1)) (omega arith)
 
-write-summary-requires : tie.Need-write-summary-requires
-write-summary-requires c κs = search needs
+slice-aggregate-trim-end : tie.Need-slice-aggregate-trim-end
+slice-aggregate-trim-end c =
+    let f = c .before in let a = f .before .before .before in
+    let m = a .args .message .now in
+    let end = f .find-followed .result in
+    sym (length-take-le end m (stop-fits m (a .args .first) end (a .pre .1) (f .find-followed .ensures)))
+
+trim-end-requires : tie.Need-trim-end-requires
+trim-end-requires c κs = search needs
+
+-- what is kept of the message lies before the stop, and that in the message
+bounds : (t : tie.After-trim-end) → let a = t .before .before .before .before .before .args in
+    (t .trim-end .result ≤ t .before .before .find-followed .result) × (t .before .before .find-followed .result ≤ length (a .message .now))
+bounds t =
+    let f = t .before .before in let a = f .before .before .before in
+    let m = a .args .message .now in
+    let found = f .find-followed .ensures in
+    (kept-fits m (a .args .first) _ (a .pre .1) found _ (t .trim-end .ensures), stop-fits m (a .args .first) _ (a .pre .1) found)
+
+-- and what its pieces add up to is the summary
+read : (t : tie.After-trim-end) → let m = t .before .before .before .before .before .args .message .now in
+    added (pieces (take (t .trim-end .result) m)) ≡ spaced (pieces m)
+read t =
+    let f = t .before .before in let a = f .before .before .before in
+    kept-summary (a .args .message .now) (a .args .first) _ (a .pre .1) (f .find-followed .ensures) _ (t .trim-end .ensures) (a .pre .0)
+
+slice-aggregate-text : tie.Need-slice-aggregate-text
+slice-aggregate-text c = sym (length-take-le _ _ (omega (arith, bounds (c .before))))
+
+is-plain-requires : tie.Need-is-plain-requires
+is-plain-requires c κs = λ h.
+    let t = c .before in let a = t .before .before .before .before .before in
+    no-lf-none 0 32 (t .trim-end .result) (a .args .message .now) (omega (arith, slice-aggregate-text c, a .pre .1, h))
+
+write-plain-requires : tie.Need-write-plain-requires
+write-plain-requires c κs =
+    let p = c .before .before in let t = p .before .before in
+    let m = t .before .before .before .before .before .args .message .now in
+    not-true (anyFollowed 0 32 (take (t .trim-end .result) m)) (sym (p .is-plain .ensures) ∙ c .before .if1 .taken)
 
 same-length : tie.Need-same-length
 same-length c = search needs
 
+returns : tie.Need-returns
+returns c =
+    let r = c .before .before in let t = r .before .before .before .before .before in
+    rw (← read t) (r .write-plain .ensures)
+
+write-folded-requires : tie.Need-write-folded-requires
+write-folded-requires c κs = search needs
+
+same-length-2 : tie.Need-same-length-2
+same-length-2 c = search needs
+
 returns-2 : tie.Need-returns-2
 returns-2 c =
-    let r = c .before .before in let fits = r .before .before in
-    let e = fits .before .summary-len .ensures in
-    let k = le-ltb _ _ (rw e at (fits .if1 .left)) in
-    (rw (k, e), rw k (r .write-summary .ensures))
+    let r = c .before .before in let t = r .before .before .before .before .before in
+    rw (← read t) (r .write-folded .ensures)
 
 pub summarise-spec : {M : Type 1} → statement M
 summarise-spec =
-    tie.close (tie.spec summary-len-requires returns write-summary-requires same-length returns-2)
+    tie.close
+    (tie.spec
+    find-followed-requires
+    slice-aggregate-trim-end
+    trim-end-requires
+    slice-aggregate-text
+    is-plain-requires
+    write-plain-requires
+    same-length
+    returns
+    write-folded-requires
+    same-length-2
+    returns-2)
