@@ -9,15 +9,13 @@ use borrow.Author.Tests.{eq-eqb, ne-eqb}
 use lib.ListN.{length, take, drop, getD, drop-of-length-le, length-drop}
 use lib.Seq.{drop-cons, drop-drop}
 use mir.Val.{boolByte}
+use Rattle.rules.proofs.Lists.{or-none}
 use Rattle.rules.proofs.Number.{feeds-split}
+use Rattle.rules.proofs.Parts.{rest}
 use Rattle.rules.specs.Bytes.{LF}
 use Rattle.rules.specs.Lists.{if_then_else_, any}
 use Rattle.rules.specs.Number.{lineFeeds}
 use Rattle.find.specs.Find.{behindLF, isLF, untilLF}
-
-pub or-none : (a b : Bool) → (a || b) ≡ false → (a ≡ false) × (b ≡ false)
-or-none true b e = absurd (false≢true (sym e))
-or-none false b e = (refl, e)
 
 -- one byte more of a run
 pub any-next : (p : ℕ → Bool) (s : List ℕ) (i : ℕ) → i < length s → any p (take (suc i) s) ≡ (any p (take i s) || p (getD s i 0))
@@ -44,6 +42,14 @@ past-run (suc k) s i h e =
     let n = or-none (isLF (getD s i 0)) (any isLF (take k (drop (suc i) s))) (rw d at e) in
     let size : i + suc k ≡ suc i + k = omega arith in
     rw (size, d, n .0) (omega (arith, past-run k s (suc i) (omega arith) (n .1)))
+
+-- what is passed over in the rest from `i` on is passed over in the whole
+pub past-part : (s : List ℕ) (i : ℕ) {r : ℕ} → i ≤ length s
+    → let t = take (length s - i) (drop i s) in (r ≤ length t) × (r + untilLF (drop r t) ≡ untilLF t)
+    → (i + r ≤ length s) × (i + r + untilLF (drop (i + r) s) ≡ i + untilLF (drop i s))
+past-part s i {r} h e =
+    let p : (r ≤ length (drop i s)) × (r + untilLF (drop (i + r) s) ≡ untilLF (drop i s)) = rw (rest s i, drop-drop r i s) at e in
+    omega (arith, p, length-drop i s)
 
 pub before-run : (k : ℕ) (s : List ℕ) (i : ℕ) → i + k ≤ length s → any isLF (take k (drop i s)) ≡ false → behindLF s i ≡ behindLF s (i + k)
 unfolding behindLF
@@ -115,3 +121,13 @@ pub feeds-run : (k : ℕ) (s : List ℕ) (i end : ℕ) → i + k ≤ end
 feeds-run k s i end h =
     let left : end - i - k ≡ end - (i + k) = omega arith in
     rw (left, drop-drop k i s) at (feeds-split (drop i s) k (end - i) (omega arith))
+
+-- a count of LFs tells whether there is one
+pub count-tells : (s : List ℕ) {n : ℕ} → n ≡ lineFeeds s → (n ≡ 0 → any isLF s ≡ false) × ((n ≡ 0 → ⊥) → any isLF s ≡ true)
+count-tells [] e = (λ z. refl, λ z. absurd (z e))
+count-tells (x ∷ s) {n} e = by (isLF x) e (count-tells s refl)
+  where
+    by : (b : Bool) → n ≡ (if b then 1 else 0) + lineFeeds s → (lineFeeds s ≡ 0 → any isLF s ≡ false) × ((lineFeeds s ≡ 0 → ⊥) → any isLF s ≡ true)
+        → (n ≡ 0 → (b || any isLF s) ≡ false) × ((n ≡ 0 → ⊥) → (b || any isLF s) ≡ true)
+    by true e r = (λ z. absurd (omega arith), λ z. refl)
+    by false e r = (λ z. r .0 (omega arith), λ z. r .1 (λ w. z (omega arith)))

@@ -10,7 +10,7 @@ use lib.Bits.{bitAnd, bitOr, bitXor}
 use lib.Count.{leadingZeros, trailingZeros}
 use lib.Dec.{leb·suc-suc, ltb}
 use lib.ListN.{length, take, drop, getD}
-use lib.Seq.{getD-take, getD-drop}
+use lib.Seq.{getD-take, getD-drop, length-take-le}
 use Rattle.rules.specs.Lists.{if_then_else_, any}
 use Rattle.word.proofs.Lanes.{added, anded, before-flag, behind-flag, behindLast, each-alike, each-of, eight, next, ored, xored}
 use Rattle.word.specs.Word.{Bytes, each, flag, packed}
@@ -94,6 +94,13 @@ pub behind-taken : (s : List ℕ) (k n : ℕ) → n ≤ k → behindLF (take k s
 unfolding behindLF
 behind-taken s k zero h = refl
 behind-taken s k (suc n) h = rw (getD-take k s n 0 (omega arith), behind-taken s k n (omega arith))
+
+-- what is passed over, backward, in the part before `i` is passed over in the whole
+pub before-part : (s : List ℕ) (i : ℕ) {r : ℕ} → i ≤ length s
+    → let t = take i s in (r ≤ length t) × (behindLF t r ≡ behindLF t (length t)) → (r ≤ i) × (behindLF s r ≡ behindLF s i)
+before-part s i {r} h e =
+    let p : (r ≤ i) × (behindLF (take i s) r ≡ behindLF (take i s) i) = rw (length-take-le i s h) at e in
+    (p .0, sym (behind-taken s i r (p .0)) ∙ p .1 ∙ behind-taken s i i (omega arith))
 
 -- ---- of a part
 

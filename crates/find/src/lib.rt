@@ -1,5 +1,6 @@
 // The search for an LF, forward and backward. An LF among the next two bytes is told at once. Then whole runs without one are passed over: a
-// run is read to its end, LF or not, so that the compiler reads all of it at once. Where in a run the LF stands is told by its two words.
+// run is read to its end, LF or not, so that the compiler reads all of it at once. Where the first 128 bytes have none, the blocks of 128 behind
+// them in which none is counted are passed over too, and the runs go on from there. Where in a run the LF stands is told by its two words.
 pub mod count;
 
 ghost use mathlib.Core.Bool.{true, not};
@@ -10,6 +11,7 @@ ghost use lib.ListN.{length, take, drop};
 ghost use Rattle.rules.specs.Lists.{any};
 ghost use Rattle.word.specs.Word.{Bytes, each, flag, packed};
 ghost use Rattle.find.specs.Find.{behindLF, isLF, other, untilLF};
+use crate::count::count_run;
 use word::before_flag;
 use word::behind_flag;
 use word::word;
@@ -19,6 +21,9 @@ const RUN: usize = 16;
 
 // How many bytes a word has.
 const WORD: usize = 8;
+
+// How many bytes a block has.
+const BLOCK: usize = 128;
 
 // Whether an LF is in a run.
 fn has_lf(run: &[u8]) -> bool
@@ -81,6 +86,21 @@ fn until_lf_of_part(part: &[u8]) -> usize
     len - WORD + until_lf_of_word(&part[len - WORD..])
 }
 
+// Where the blocks without an LF at the front end: an LF is in the next one, or no whole block is left.
+fn past_blocks(s: &[u8]) -> usize
+    ensures { λ r. ⌜ (r + 128 ≤ length (now (s .entry)) → any isLF (take 128 (drop r (now (s .entry)))) ≡ true) ⌝ }
+    ensures { λ r. ⌜ (r ≤ length (now (s .entry))) × (r + untilLF (drop r (now (s .entry))) ≡ untilLF (now (s .entry))) ⌝ }
+{
+    let mut i = 0;
+    while s.len() - i >= BLOCK {
+        if count_run(&s[i..i + BLOCK]) != 0 {
+            return i;
+        }
+        i += BLOCK;
+    }
+    i
+}
+
 // The place of the first LF from `at` on; the end where there is none.
 pub fn find_lf(s: &[u8], at: usize) -> usize
     requires { ⌜ at ≤ length (now s) ⌝ }
@@ -101,6 +121,9 @@ pub fn find_lf(s: &[u8], at: usize) -> usize
             return i + until_lf_of_part(&s[i..i + RUN]);
         }
         i += RUN;
+        if i - at == BLOCK {
+            i += past_blocks(&s[i..]);
+        }
     }
     i + until_lf_of_part(&s[i..])
 }
@@ -110,6 +133,21 @@ pub fn holds_lf(s: &[u8]) -> bool
     ensures { λ r. ⌜ r ≡ any isLF (now (s .entry)) ⌝ }
 {
     find_lf(s, 0) < s.len()
+}
+
+// Where the blocks without an LF at the end start: an LF is in the one before, or no whole block is left.
+fn before_blocks(s: &[u8]) -> usize
+    ensures { λ r. ⌜ (128 ≤ r → any isLF (take 128 (drop (r - 128) (now (s .entry)))) ≡ true) ⌝ }
+    ensures { λ r. ⌜ (r ≤ length (now (s .entry))) × (behindLF (now (s .entry)) r ≡ behindLF (now (s .entry)) (length (now (s .entry)))) ⌝ }
+{
+    let mut i = s.len();
+    while i >= BLOCK {
+        if count_run(&s[i - BLOCK..i]) != 0 {
+            return i;
+        }
+        i -= BLOCK;
+    }
+    i
 }
 
 // Where the runs without an LF that end at `end` and before each other start: an LF is in the run there, or no whole run is left.
@@ -124,6 +162,9 @@ fn before_runs(s: &[u8], end: usize) -> usize
             return i;
         }
         i -= RUN;
+        if end - i == BLOCK {
+            i = before_blocks(&s[..i]);
+        }
     }
     i
 }

@@ -8,12 +8,12 @@ use lib.ListN.{length, take, drop}
 use Rattle.rules.proofs.Parts.{rest}
 use Rattle.rules.specs.Lists.{any}
 use Rattle.find.specs.Find.{isLF, untilLF}
-use Rattle.find.proofs.Runs.{ends, goes, in-run, past-run, until-fits}
+use Rattle.find.proofs.Runs.{ends, goes, in-run, past-part, past-run, until-fits}
 use Rattle.find.proofs.find_lf.Statement.{statement}
 use Rattle.find.proofs.find_lf.Tie as tie
 
 abbrev Inv-loop : tie.InvT-loop
-Inv-loop s at len i₀ i = (len ≡ length s) × ((i ≤ length s) × (i + untilLF (drop i s) ≡ at + untilLF (drop at s)))
+Inv-loop s at len i₀ i = (len ≡ length s) × (at ≤ i) × (i ≤ length s) × (i + untilLF (drop i s) ≡ at + untilLF (drop at s))
 
 abbrev μ-loop : tie.MeasureT-loop
 μ-loop s at len i₀ i = length s - i
@@ -91,7 +91,7 @@ in-the-run c =
     let size : i + 16 - i ≡ 16 = omega arith in
     let some : any isLF (take 16 (drop i s)) ≡ true = rw size at (sym (r .has-lf .ensures) ∙ c .before .before .if4 .taken) in
     let there : c .until-lf-of-part .result ≡ untilLF (drop i s) = (rw size at (c .until-lf-of-part .ensures)) ∙ in-run 16 s i some in
-    (omega (arith, there, l .loop .inv .1 .1), until-fits s (l .before .before .before .args .at) (search needs))
+    (omega (arith, there, l .loop .inv .3), until-fits s (l .before .before .before .args .at) (search needs))
 
 add-result-2 : tie.Need-add-result-2 Inv-loop μ-loop
 add-result-2 c = let k = in-the-run c in search needs
@@ -102,16 +102,55 @@ returns-3 c = in-the-run c .0
 add-i : tie.Need-add-i Inv-loop μ-loop
 add-i c = search needs
 
-loop-less : tie.Need-loop-less Inv-loop μ-loop
-loop-less c = search needs
-
-loop-again : tie.Need-loop-again Inv-loop μ-loop
-loop-again c =
+-- the run at `i` has no LF
+past-the-run : (c : tie.Else4 Inv-loop μ-loop) → let l = c .before .before .before .before in let s = l .before .before .before .args .s .now in
+    let at = l .before .before .before .args .at in
+    l .loop .i + 16 + untilLF (drop (l .loop .i + 16) s) ≡ at + untilLF (drop at s)
+past-the-run c =
     let r = c .before in let l = r .before .before .before in let s = l .before .before .before .args .s .now in
     let i = l .loop .i in
     let size : i + 16 - i ≡ 16 = omega arith in
     let none : any isLF (take 16 (drop i s)) ≡ false = rw size at (sym (r .has-lf .ensures) ∙ c .if4 .left) in
-    omega (arith, past-run 16 s i (omega arith) none)
+    omega (arith, past-run 16 s i (search needs) none, l .loop .inv .3)
+
+sub-if5 : tie.Need-sub-if5 Inv-loop μ-loop
+sub-if5 c = search needs
+
+sub-past-blocks : tie.Need-sub-past-blocks Inv-loop μ-loop
+sub-past-blocks c = search needs
+
+part-past-blocks-start : tie.Need-part-past-blocks-start Inv-loop μ-loop
+part-past-blocks-start c = search needs
+
+part-past-blocks-end : tie.Need-part-past-blocks-end Inv-loop μ-loop
+part-past-blocks-end c = search needs
+
+past-blocks-requires : tie.Need-past-blocks-requires Inv-loop μ-loop
+past-blocks-requires c κs = search needs
+
+-- the blocks passed over behind that run have none either
+past-the-blocks : (c : tie.After-past-blocks Inv-loop μ-loop) → let l = c .before .before .before .before .before .before .before in
+    let s = l .before .before .before .args .s .now in let at = l .before .before .before .args .at in
+    let j = l .loop .i + 16 + c .past-blocks .result in (j ≤ length s) × (j + untilLF (drop j s) ≡ at + untilLF (drop at s))
+past-the-blocks c =
+    let l = c .before .before .before .before .before .before .before in
+    let p = past-part (l .before .before .before .args .s .now) (l .loop .i + 16) (search needs) (c .past-blocks .ensures .1) in
+    (p .0, p .1 ∙ past-the-run (c .before .before .before))
+
+add-i-2 : tie.Need-add-i-2 Inv-loop μ-loop
+add-i-2 c = let p = past-the-blocks c in search needs
+
+loop-less : tie.Need-loop-less Inv-loop μ-loop
+loop-less c = search needs
+
+loop-again : tie.Need-loop-again Inv-loop μ-loop
+loop-again c = let p = past-the-blocks c in search needs
+
+loop-less-2 : tie.Need-loop-less-2 Inv-loop μ-loop
+loop-less-2 c = search needs
+
+loop-again-2 : tie.Need-loop-again-2 Inv-loop μ-loop
+loop-again-2 c = let p = past-the-run (c .before) in search needs
 
 sub-until-lf-of-part-2 : tie.Need-sub-until-lf-of-part-2 Inv-loop μ-loop
 sub-until-lf-of-part-2 c = search needs
@@ -132,7 +171,7 @@ in-the-rest : (c : tie.After-until-lf-of-part2 Inv-loop μ-loop) → let l = c .
 in-the-rest c =
     let l = c .before .before .before in let s = l .before .before .before .args .s .now in
     let there : c .until-lf-of-part2 .result ≡ untilLF (drop (l .loop .i) s) = rw (rest s (l .loop .i)) at (c .until-lf-of-part2 .ensures) in
-    (omega (arith, there, l .loop .inv .1 .1), until-fits s (l .before .before .before .args .at) (search needs))
+    (omega (arith, there, l .loop .inv .3), until-fits s (l .before .before .before .args .at) (search needs))
 
 add-result-3 : tie.Need-add-result-3 Inv-loop μ-loop
 add-result-3 c = let k = in-the-rest c in search needs
@@ -168,8 +207,16 @@ find-lf-spec =
     add-result-2
     returns-3
     add-i
+    sub-if5
+    sub-past-blocks
+    part-past-blocks-start
+    part-past-blocks-end
+    past-blocks-requires
+    add-i-2
     loop-less
     loop-again
+    loop-less-2
+    loop-again-2
     sub-until-lf-of-part-2
     part-until-lf-of-part-start-2
     part-until-lf-of-part-end-2
