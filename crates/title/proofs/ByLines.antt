@@ -35,7 +35,7 @@ body-at : (s : List ℕ) (n : ℕ) → titleEnd s ≡ n → bodyStart s ≡ n + 
 unfolding bodyStart
 body-at s n e = ap (λ (k : ℕ). k + twoEnds (drop k s)) e
 
-goes-on : (c : ℕ) (s : List ℕ) → twoEnds (c ∷ s) ≡ 0
+pub goes-on : (c : ℕ) (s : List ℕ) → twoEnds (c ∷ s) ≡ 0
     → (titleEnd (c ∷ s) ≡ suc (titleEnd s)) × (bodyStart (c ∷ s) ≡ suc (bodyStart s))
 goes-on c s e =
     let t : titleEnd (c ∷ s) ≡ suc (titleEnd s) = rw e in
@@ -49,16 +49,16 @@ ends c s k e =
 
 -- ---- the first line is LF or CR LF
 
-two-front : (s : List ℕ) (n m : ℕ) → lineEnd s ≡ suc n → lineEnd (drop (suc n) s) ≡ m
+pub two-front : (s : List ℕ) (n m : ℕ) → lineEnd s ≡ suc n → lineEnd (drop (suc n) s) ≡ m
     → twoEnds s ≡ (elim m [ zero ↦ 0 | suc k ↦ suc n + suc k ])
 unfolding twoEnds
 two-front s n m e f = rw (e, twoEnds, f)
 
-lf-front : (s : List ℕ) → lineEnd (LF ∷ s) ≡ 1
+pub lf-front : (s : List ℕ) → lineEnd (LF ∷ s) ≡ 1
 unfolding lineEnd
 lf-front s = refl
 
-crlf-front : (s : List ℕ) → lineEnd (CR ∷ LF ∷ s) ≡ 2
+pub crlf-front : (s : List ℕ) → lineEnd (CR ∷ LF ∷ s) ≡ 2
 unfolding lineEnd
 crlf-front s = refl
 
@@ -75,11 +75,11 @@ at-crlf s (suc m) e =
 
 -- ---- its first byte belongs to its text
 
-no-front : (c : ℕ) (s : List ℕ) → (c ≡ LF → ⊥) → starts (CR ∷ LF ∷ []) (c ∷ s) ≡ false → lineEnd (c ∷ s) ≡ 0
+pub no-front : (c : ℕ) (s : List ℕ) → (c ≡ LF → ⊥) → starts (CR ∷ LF ∷ []) (c ∷ s) ≡ false → lineEnd (c ∷ s) ≡ 0
 unfolding lineEnd
 no-front c s n e = rw (e, ne-eqb LF c (λ h. n (sym h)))
 
-no-two : (s : List ℕ) → lineEnd s ≡ 0 → twoEnds s ≡ 0
+pub no-two : (s : List ℕ) → lineEnd s ≡ 0 → twoEnds s ≡ 0
 unfolding twoEnds
 no-two s e = rw (e, twoEnds)
 

@@ -1,6 +1,8 @@
-// Where the title of a message ends and its body starts: what the loop of the original's decode.rs finds, by lines.
+// Where the title of a message ends and its body starts: what the loop of the original's decode.rs finds, by lines. Behind a line, whole
+// runs in which no LF is followed by the first byte of a line end are passed over, however many lines they hold.
 ghost use mathlib.Core.Path.{_≡_};
 ghost use Rattle.rules.specs.Title.{bodyStart, lineEnd, titleEnd};
+ghost use Rattle.title.specs.Runs.{InTitle, anyMeets};
 use text::fixed::starts_with;
 use text::line::line_len;
 use text::line::trim_line_ending;
@@ -10,6 +12,12 @@ pub struct Places {
     pub title_end: usize,
     pub body_start: usize,
 }
+
+// How many bytes are read as one run.
+const READ: usize = 17;
+
+// How many bytes of a run without two line ends are passed: not its last two, which may be a CR LF with the second line end behind the run.
+const PASSED: usize = 15;
 
 // The title ends at the first place where two line ends follow each other; the body is what comes after them. The second
 // stands where a line starts, and the first ends the line before it.
@@ -27,7 +35,7 @@ pub fn title_and_body(message: &[u8]) -> Places
                 body_start: end + second_len,
             };
         }
-        at = end;
+        at = end + past_lines(&message[end..]);
     }
     Places {
         title_end: at,
@@ -46,4 +54,32 @@ fn newline_len(input: &[u8]) -> usize
         return 1;
     }
     0
+}
+
+// Whether an LF of `run` is followed there by LF or CR, with which every line end begins. The run is read to its end, so that the compiler
+// reads all of it at once.
+fn has_two_ends(run: &[u8]) -> bool
+    ensures { λ r. ⌜ r ≡ anyMeets (now (run .entry)) ⌝ }
+{
+    let mut found = false;
+    let mut i = 1;
+    while i < run.len() {
+        found = found | ((run[i - 1] == b'\n') & ((run[i] == b'\n') | (run[i] == b'\r')));
+        i += 1;
+    }
+    found
+}
+
+// How many bytes from the front on are passed over, by runs in which no two line ends are found: the title does not end among them.
+fn past_lines(message: &[u8]) -> usize
+    ensures { λ r. ⌜ InTitle (now (message .entry)) r ⌝ }
+{
+    let mut i = 0;
+    while message.len() - i >= READ {
+        if has_two_ends(&message[i..i + READ]) {
+            return i;
+        }
+        i += PASSED;
+    }
+    i
 }

@@ -1,15 +1,17 @@
--- `title::title_and_body` meets its contract. The invariant: the title has `at` bytes and those that a title from `at` on has,
--- and the body starts alike. Assumes nothing.
+-- `title::title_and_body` meets its contract. The invariant: the first `at` bytes are in the title. Assumes nothing.
 use mathlib.Core.List.{List, []}
-use mathlib.Core.Path.{_≡_, ap}
+use mathlib.Core.Path.{_≡_}
 use Prim.Native.Nat.{ℕ, _+_, _-_, _≤_, _<_}
 use native.Mathlib.Omega.{arith}
 use borrow.Author.Needs.{needs}
 use lib.ListN.{length, drop, drop-of-length-le}
+use Rattle.rules.proofs.Parts.{rest}
 use Rattle.rules.proofs.Title.{body-fits, title-before-body}
 use Rattle.rules.specs.Title.{bodyStart, titleEnd}
 use Rattle.text.proofs.ByLines.{line-ahead}
+use Rattle.title.specs.Runs.{InTitle}
 use Rattle.title.proofs.ByLines.{line-passed, line-ended}
+use Rattle.title.proofs.Runs.{further}
 use Rattle.title.proofs.title_and_body.Statement.{statement}
 use Rattle.title.proofs.title_and_body.Tie as tie
 
@@ -20,9 +22,7 @@ over s i h =
     (rw none, rw none (omega (arith, body-fits [])))
 
 abbrev Inv-loop : tie.InvT-loop
-Inv-loop message at₀ at =
-    (at ≤ length message) × (titleEnd message ≡ at + titleEnd (drop at message))
-    × (bodyStart message ≡ at + bodyStart (drop at message))
+Inv-loop message at₀ at = InTitle message at
 
 abbrev μ-loop : tie.MeasureT-loop
 μ-loop message at₀ at = length message - at
@@ -94,14 +94,31 @@ add-t20 c =
     let m = c .before .before .before in let s = text (m .before .before) in
     omega (arith, returns c, title-before-body s, body-fits s)
 
-loop-less : tie.Need-loop-less Inv-loop μ-loop
-loop-less c = omega (arith, ahead (c .before .before .before))
+sub-past-lines : tie.Need-sub-past-lines Inv-loop μ-loop
+sub-past-lines c = ahead (c .before .before .before) .1
+
+part-past-lines-start : tie.Need-part-past-lines-start Inv-loop μ-loop
+part-past-lines-start c = ahead (c .before .before .before) .1
+
+part-past-lines-end : tie.Need-part-past-lines-end Inv-loop μ-loop
+part-past-lines-end c = search needs
+
+past-lines-requires : tie.Need-past-lines-requires Inv-loop μ-loop
+past-lines-requires c κs = search needs
 
 loop-again : tie.Need-loop-again Inv-loop μ-loop
 loop-again c =
-    let m = c .before in let n = m .before .before in let l = n .before .before .before in
-    let passed = line-passed (text n) (l .loop .at) _ _ (omega arith) (n .line-len .ensures) (m .newline-len .ensures) (c .if1 .left) in
-    omega (arith, passed, ahead n)
+    let e = c .before .before in let m = e .before in let n = m .before .before in let l = n .before .before .before in
+    let s = text n in let at = l .loop .at in
+    let line = line-passed s at _ _ (omega arith) (n .line-len .ensures) (m .newline-len .ensures) (e .if1 .left) in
+    let end : InTitle s (at + n .line-len .result) = omega (arith, line, ahead n) in
+    further s (at + n .line-len .result) (c .past-lines .result) end (rw rest at (c .past-lines .ensures))
+
+add-at : tie.Need-add-at Inv-loop μ-loop
+add-at c = omega (arith, loop-again c .0)
+
+loop-less : tie.Need-loop-less Inv-loop μ-loop
+loop-less c = omega (arith, loop-again c .0, ahead (c .before .before .before .before .before))
 
 returns-2 : tie.Need-returns-2 Inv-loop μ-loop
 returns-2 c =
@@ -132,6 +149,11 @@ title-and-body-spec =
     add-t17
     add-t20
     returns
+    sub-past-lines
+    part-past-lines-start
+    part-past-lines-end
+    past-lines-requires
+    add-at
     loop-less
     loop-again
     returns-2)
