@@ -1,5 +1,5 @@
 -- The last non-blank line holds the last byte that is not blank, and where the line starts does not change how it ended. Assumes nothing.
-use mathlib.Core.Bool.{Bool, true, false, false≢true, not, _&&_}
+use mathlib.Core.Bool.{Bool, true, false, false≢true, and-true, not, _&&_}
 use mathlib.Core.List.{List, [], _∷_}
 use mathlib.Core.Option.{Option, none, some}
 use mathlib.Core.Path.{_≡_, refl, sym, ap, _∙_}
@@ -7,16 +7,18 @@ use Prim.Native.Nat.{ℕ, zero, suc, _+_, _-_, _≤_, _<_}
 use native.Mathlib.Omega.{arith}
 use lib.Dec.{eqb, eqb→eq}
 use lib.ListN.{length, getD, take, drop}
-use lib.Seq.{drop-cons, drop-drop}
+use lib.Seq.{drop-drop, length-take-le}
 use Rattle.rules.specs.Bytes.{LF, blankByte}
 use Rattle.rules.specs.Lines.{Line, before, ending, lines}
 use Rattle.rules.specs.Lists.{if_then_else_, all}
 use Rattle.rules.specs.Paragraph.{endingBelow, endingUnder, lastEnding, orNone, solid}
 use Rattle.rules.specs.declared.Ending.{Ending}
+use Rattle.text.proofs.Blanks.{blank-before, blank-next, blank-parts}
 use Rattle.text.proofs.ByLines.{line-some, line-then}
 use Rattle.text.proofs.Lines.{blank-all}
 use Rattle.text.specs.Lines.{firstLength}
 use Rattle.paragraph.specs.Solid.{SolidLen}
+use Rattle.paragraph.proofs.Upward.{part-is}
 
 -- a line by its bytes
 solid-is : (l : Line) (b : Bool) → all blankByte l ≡ b → solid l ≡ not b
@@ -94,31 +96,24 @@ dropped (suc k) (c ∷ s) e h = front c s e (dropped k s e h)
 -- ---- the line that holds the last byte that is not blank
 
 drop-blank : (k : ℕ) (s : List ℕ) → all blankByte s ≡ true → all blankByte (drop k s) ≡ true
-drop-blank zero s e = e
-drop-blank (suc k) [] e = e
-drop-blank (suc k) (c ∷ s) e = drop-blank k s (both (blankByte c) (all blankByte s) e .1)
+drop-blank k s e = both (all blankByte (take k s)) (all blankByte (drop k s)) (sym (blank-parts k s) ∙ e) .1
 
 front-solid : (k : ℕ) (s : List ℕ) → all blankByte (drop k s) ≡ true → all blankByte s ≡ false → all blankByte (take k s) ≡ false
-front-solid zero s e q = absurd (false≢true (sym q ∙ e))
-front-solid (suc k) [] e q = q
-front-solid (suc k) (c ∷ s) e q = by (blankByte c) (front-solid k s e) q
-  where
-    by : (b : Bool) → (all blankByte s ≡ false → all blankByte (take k s) ≡ false) → b && all blankByte s ≡ false → b && all blankByte (take k s) ≡ false
-    by true more h = more h
-    by false more h = refl
+front-solid k s e q = sym (blank-parts k s ∙ rw e (and-true (all blankByte (take k s)))) ∙ q
 
 -- one byte more from the end
 pub back-one : (body : List ℕ) (n : ℕ) → 0 < n → n ≤ length body → (b : Bool) → blankByte (getD body (n - 1) 0) ≡ b
     → all blankByte (drop n body) ≡ true → all blankByte (drop (n - 1) body) ≡ b
 back-one body n z h b q e =
-    let size : suc (n - 1) ≡ n = omega arith in
-    let byte : ℕ = getD body (n - 1) 0 in
-    let here : drop (n - 1) body ≡ byte ∷ drop n body = drop-cons body (n - 1) 0 (omega arith) ∙ ap (λ (m : ℕ). byte ∷ drop m body) size in
-    ap (all blankByte) here ∙ ap (λ (x : Bool). x && all blankByte (drop n body)) q ∙ ap (λ (x : Bool). b && x) e ∙ by b
-  where
-    by : (x : Bool) → x && true ≡ x
-    by true = refl
-    by false = refl
+    let place : n - 1 + 1 ≡ n = omega arith in
+    blank-next body (n - 1) true b (omega arith) (sym q) ∙ rw (place, e) (and-true b)
+
+-- the blank end of the first n bytes goes on to the body's end where all behind them is blank
+pub back-part : (body : List ℕ) (n r : ℕ) → n ≤ length body → all blankByte (drop n body) ≡ true
+    → (r ≤ length (take n body)) × (all blankByte (drop r (take n body)) ≡ true) → (r ≤ n) × (all blankByte (drop r body) ≡ true)
+back-part body n r h e p =
+    let fits : r ≤ n = omega (arith, p .0, length-take-le n body h) in
+    (fits, blank-before body r n true fits (sym (ap (all blankByte) (part-is body r n fits h)) ∙ p .1) e)
 
 pub ends-nowhere : (body : List ℕ) → SolidLen body 0 → endingBelow body ≡ Ending.None
 unfolding endingBelow

@@ -26,7 +26,7 @@ use Rattle.paragraph.proofs.Scanned.{Open, open-put, blank-put, counted
 abbrev pub part : List ℕ → ℕ → ℕ → List ℕ
 part s start end = take (end - start) (drop start s)
 
-part-is : (s : List ℕ) (start end : ℕ) → start ≤ end → end ≤ length s → drop start (take end s) ≡ part s start end
+pub part-is : (s : List ℕ) (start end : ℕ) → start ≤ end → end ≤ length s → drop start (take end s) ≡ part s start end
 part-is s start end h l =
     let sum : end ≡ start + (end - start) = omega arith in
     ap (λ (n : ℕ). drop start (take n s)) sum ∙ ap (drop start) (take-add start (end - start) s)

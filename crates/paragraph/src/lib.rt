@@ -8,6 +8,7 @@ ghost use Rattle.paragraph.specs.Scan.{endAbove, lastParagraph, scanned}
 ghost use Rattle.paragraph.specs.Solid.{SolidLen};
 use rules::Ending;
 use text::fixed::starts_with;
+use text::line::before_blanks;
 use text::line::is_ascii_whitespace;
 use text::line::is_blank_line;
 use text::line::is_indented;
@@ -144,6 +145,9 @@ pub fn trailer_block_start(body: &[u8]) -> usize
     end_above(body, paragraph.start)
 }
 
+// How many blank bytes at a body's end are passed one by one, before whole runs of them are.
+const NEAR: usize = 16;
+
 // How long `body` is without the blank bytes at its end.
 fn solid_len(body: &[u8]) -> usize
     ensures { λ r. ⌜ SolidLen (now (body .entry)) r ⌝ }
@@ -154,6 +158,9 @@ fn solid_len(body: &[u8]) -> usize
             return len;
         }
         len -= 1;
+        if body.len() - len == NEAR {
+            len = before_blanks(&body[..len]);
+        }
     }
     len
 }

@@ -1,8 +1,9 @@
 // Lines: where they end and start, their text, and the tests on them.
+ghost use mathlib.Core.Bool.{true, false};
 ghost use mathlib.Core.Path.{_≡_};
-ghost use Prim.Native.Nat.{_≤_};
+ghost use Prim.Native.Nat.{_-_, _≤_};
 ghost use lib.Dec.{ltb};
-ghost use lib.ListN.{length};
+ghost use lib.ListN.{length, drop};
 ghost use Rattle.rules.specs.Bytes.{blankByte};
 ghost use Rattle.rules.specs.Lines.{ending, endsWith, indented, lines, text};
 ghost use Rattle.rules.specs.Lists.{all};
@@ -11,6 +12,9 @@ use find::behind_lf;
 use find::find_lf;
 use find::holds_lf;
 use rules::Ending;
+
+// How many bytes are asked at once whether they are blank.
+const BLANK_RUN: usize = 64;
 
 // The length of the first line, its ending with it; 0 of an empty input.
 pub fn line_len(s: &[u8]) -> usize
@@ -110,6 +114,40 @@ pub fn is_blank_line(line: &[u8]) -> bool
         i += 1;
     }
     true
+}
+
+// Whether a run is all ASCII blank. It is read to its end, so that the compiler reads all of it at once.
+fn is_blank_run(run: &[u8]) -> bool
+    ensures { λ r. ⌜ r ≡ all blankByte (now (run .entry)) ⌝ }
+{
+    let mut blank = true;
+    let mut i = 0;
+    while i < run.len() {
+        let byte = run[i];
+        blank = blank
+            & ((byte == b' ')
+                | (byte == b'\t')
+                | (byte == b'\n')
+                | (byte == b'\x0C')
+                | (byte == b'\r'));
+        i += 1;
+    }
+    blank
+}
+
+// Where the blank runs at the end start.
+pub fn before_blanks(s: &[u8]) -> usize
+    ensures { λ r. ⌜ (r ≤ length (now (s .entry))) × (all blankByte (drop r (now (s .entry))) ≡ true) ⌝ }
+    ensures { λ r. ⌜ (64 ≤ r → all blankByte (drop (r - 64) (now (s .entry))) ≡ false) ⌝ }
+{
+    let mut i = s.len();
+    while i >= BLANK_RUN {
+        if !is_blank_run(&s[i - BLANK_RUN..i]) {
+            return i;
+        }
+        i -= BLANK_RUN;
+    }
+    i
 }
 
 // Whether a line begins with an ASCII blank.

@@ -1,23 +1,17 @@
 -- `text::line::is_blank_line` meets its contract. The invariant: from `i` on all is blank just where all of it is.
 -- Assumes nothing.
-use mathlib.Core.Bool.{Bool, true, false, _&&_}
-use mathlib.Core.List.{List}
+use mathlib.Core.Bool.{true, false}
 use mathlib.Core.Path.{_≡_, sym, _∙_}
-use Prim.Native.Nat.{ℕ, _+_, _-_, _≤_, _<_}
-use native.Mathlib.Numerals.{add-one}
+use Prim.Native.Nat.{_-_, _≤_}
 use native.Mathlib.Omega.{arith}
 use borrow.Author.Needs.{needs}
 use borrow.Author.Tests.{not-true, not-false}
 use lib.ListN.{length, drop, getD, drop-of-length-le}
-use lib.Seq.{drop-cons}
 use Rattle.rules.specs.Bytes.{blankByte}
 use Rattle.rules.specs.Lists.{all}
+use Rattle.text.proofs.Blanks.{blank-next}
 use Rattle.text.proofs.line.is_blank_line.Statement.{statement}
 use Rattle.text.proofs.line.is_blank_line.Tie as tie
-
-step : (s : List ℕ) (i : ℕ) (b : Bool) → i < length s → b ≡ blankByte (getD s i 0)
-    → all blankByte (drop i s) ≡ b && all blankByte (drop (i + 1) s)
-step s i b h e = rw (add-one i, drop-cons s i 0, e)
 
 abbrev Inv-loop : tie.InvT-loop
 Inv-loop line i₀ i = (i ≤ length line) × (all blankByte line ≡ all blankByte (drop i line))
@@ -40,7 +34,7 @@ returns c =
     let r = c .before in let l = r .before .before .before in let s = l .before .before .args .line .now in
     let i = l .loop .i in
     let w : false ≡ blankByte (getD s i 0) = sym (not-true _ (c .if1 .taken)) ∙ r .is-ascii-whitespace .ensures in
-    sym (l .loop .inv .1 ∙ step s i false (omega arith) w)
+    sym (l .loop .inv .1 ∙ blank-next s i true false (omega arith) w)
 
 add-i : tie.Need-add-i Inv-loop μ-loop
 add-i c = search needs
@@ -53,7 +47,7 @@ loop-again c =
     let r = c .before in let l = r .before .before .before in let s = l .before .before .args .line .now in
     let i = l .loop .i in
     let w : true ≡ blankByte (getD s i 0) = sym (not-false _ (c .if1 .left)) ∙ r .is-ascii-whitespace .ensures in
-    (search needs, l .loop .inv .1 ∙ step s i true (omega arith) w)
+    (search needs, l .loop .inv .1 ∙ blank-next s i true true (omega arith) w)
 
 returns-2 : tie.Need-returns-2 Inv-loop μ-loop
 returns-2 c =
