@@ -8,9 +8,11 @@ use mathlib.Core.Path.{_≡_, refl, sym, ap, _∙_}
 use Prim.Native.Nat.{ℕ, _+_, _*_, _≤_}
 use native.Mathlib.Nat.{add-comm, zero-add}
 use native.Mathlib.Omega.{arith}
+use borrow.Author.Tests.{ne-eqb}
 use lib.Dec.{T, T-not, not-T, eqb}
 use lib.ListN.{length, take, length-append}
 use lib.Seq.{take-append-seam}
+use Rattle.rules.specs.Bytes.{blankByte}
 use Rattle.rules.specs.Lines.{Line, lines, text, blank, indented, folds}
 use Rattle.rules.specs.Lists.{if_then_else_, All, filled, join, starts}
 use Rattle.rules.specs.Paragraph.{cherryPicked, signedOff, recognised, leads, Group, grouped, groupedLines, leadCount, otherCount, anyRecognised}
@@ -21,7 +23,7 @@ use Rattle.rules.proofs.Above.{settled}
 use Rattle.rules.proofs.Lines.{filled-lines, join-lines, lines-prefix}
 use Rattle.rules.proofs.Lists.{and-right, or-cases, or-left, filled-some, is-true, is-false, join-append}
 use Rattle.rules.proofs.Paragraph.{leads-not-folds, parse-lines}
-use Rattle.rules.proofs.Trailer.{trailer-line}
+use Rattle.rules.proofs.Trailer.{indented-no-trailer, trailer-line}
 use Rattle.trailer.specs.Line.{parsed}
 use Rattle.trailer.specs.declared.line.TrailerLine.{TrailerLine}
 use Rattle.paragraph.specs.declared.Scan.{Scan}
@@ -43,6 +45,17 @@ told l r q e f = by (trailerLine l) ∙ ap isAt (sym e ∙ f)
         → b ≡ isAt (if b then TrailerLine.At (length (tokenIn l)) (length (tokenIn l) + length (gapIn l) + 1) else TrailerLine.NoTrailer)
     by true = refl
     by false = refl
+
+-- ---- an indented line is no trailer line, and none that begins with `S` or `(`
+
+pub indented-not-leads : (l : Line) → indented l ≡ true → leads l ≡ false
+unfolding indented leads recognised blankByte
+indented-not-leads [] i = absurd (false≢true i)
+indented-not-leads (c ∷ l) i =
+    rw (differs 83 refl, differs 40 refl, is-false (trailerLine (c ∷ l)) (indented-no-trailer (c ∷ l) (rw i tt)))
+  where
+    differs : (x : ℕ) → blankByte x ≡ false → eqb x c ≡ false
+    differs x n = ne-eqb x c (λ e. false≢true (sym n ∙ ap blankByte e ∙ i))
 
 -- ---- one line more above
 

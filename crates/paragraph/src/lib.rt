@@ -48,12 +48,17 @@ pub fn is_recognized_prefix(line: &[u8]) -> bool
     starts_with(line, &CHERRY_PICKED)
 }
 
-// What one more line above, which is not blank, adds.
+// What one more line above, which is not blank, adds. An indented line is neither recognised nor a trailer line: that is asked first,
+// unlike in the original, since its first byte tells.
 fn scan_line(mut scan: Scan, line: &[u8]) -> Scan
     requires { ⌜ scan .«trailer_lines» + scan .«non_trailer_lines» + scan .«possible_continuation_lines» < 2 ^ 63 ⌝ }
     ensures { λ r. ⌜ r ≡ scanned (now (line .entry)) scan ⌝ }
 {
     scan.saw_non_blank_line = true;
+    if is_indented(line) {
+        scan.possible_continuation_lines += 1;
+        return scan;
+    }
     if is_recognized_prefix(line) {
         scan.trailer_lines += 1;
         scan.possible_continuation_lines = 0;
@@ -66,10 +71,6 @@ fn scan_line(mut scan: Scan, line: &[u8]) -> Scan
     } = parse_trailer_line(line) {
         scan.trailer_lines += 1;
         scan.possible_continuation_lines = 0;
-        return scan;
-    }
-    if is_indented(line) {
-        scan.possible_continuation_lines += 1;
         return scan;
     }
     scan.non_trailer_lines += 1 + scan.possible_continuation_lines;
