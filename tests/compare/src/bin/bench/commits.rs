@@ -1,12 +1,15 @@
 //! Commit objects with headers of a mebibyte, beside a search for the header's LFs, one for each line, up to the empty line: by
-//! the archive's own search, which is what `title_and_body` does there, and by memchr's.
+//! the C library's memchr, and by the crate's.
 
 use std::hint::black_box;
 
-use compare::{answers::LIMIT, archive, commits};
+use compare::{answers::LIMIT, commits};
 use original::bstr::ByteSlice;
 
-use crate::race::{race, Race};
+use crate::{
+    libc,
+    race::{race, Race},
+};
 
 /// A call on a header, and how it did beside a search.
 pub struct Row {
@@ -19,8 +22,8 @@ pub struct Row {
 pub const CALLS: &[&str] = &[
     "message",
     "last line",
-    "message, beside memchr",
-    "last line, beside memchr",
+    "message, beside the crate's",
+    "last line, beside the crate's",
 ];
 
 /// The first line of what fills each header, and the line that it goes on with.
@@ -69,7 +72,7 @@ pub fn rows() -> Vec<Row> {
                 race: race.unwrap_or_else(|| panic!("{header}: the two find another message")),
             });
         };
-        let lines = || lfs(black_box(content));
+        let lines = || libc_lfs(black_box(content));
         let words = || memchr_lfs(black_box(content));
         let ours = || message(black_box(content));
         let ours_last = || last_line(black_box(content), last);
@@ -95,28 +98,28 @@ fn filled(front: &[u8], unit: &[u8], end: &[u8]) -> Vec<u8> {
     content
 }
 
-/// Where the message starts, by the archive's search for the title's end, which goes from LF to LF.
-#[inline(never)]
-pub fn lfs(content: &[u8]) -> u64 {
-    let mut result = [0; archive::RESULT_LEN];
-    archive::title_and_body(content, &mut result);
-    if result[0] == 2 {
-        return result[2] as u64;
-    }
-    content.len() as u64
-}
-
-/// Where the message starts, by memchr's search for each line's LF.
-#[inline(never)]
-fn memchr_lfs(content: &[u8]) -> u64 {
+/// Where the message starts, by a search for each line's LF.
+fn by_lines(content: &[u8], find: impl Fn(&[u8]) -> Option<usize>) -> u64 {
     let mut at = 0;
-    while let Some(len) = content[at..].find_byte(b'\n') {
+    while let Some(len) = find(&content[at..]) {
         if len == 0 {
             return at as u64 + 1;
         }
         at += len + 1;
     }
-    0
+    content.len() as u64
+}
+
+/// The same, by the C library's.
+#[inline(never)]
+pub fn libc_lfs(content: &[u8]) -> u64 {
+    by_lines(content, |rest| libc::find(rest, b'\n'))
+}
+
+/// The same, by the crate memchr's.
+#[inline(never)]
+pub fn memchr_lfs(content: &[u8]) -> u64 {
+    by_lines(content, |rest| rest.find_byte(b'\n'))
 }
 
 #[inline(never)]

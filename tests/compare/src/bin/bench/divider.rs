@@ -1,5 +1,5 @@
 //! Where a message of a mebibyte without a divider ends in the second reading, beside a search for its LFs, one for each line: by
-//! the archive's own search, which is what `title_and_body` does in a message without an empty line, and by memchr's.
+//! the C library's memchr, and by the crate's.
 
 use std::hint::black_box;
 
@@ -7,10 +7,9 @@ use compare::{
     answers::LIMIT,
     archive::{self, ABOVE_DIVIDER, OK, RESULT_LEN},
 };
-use original::bstr::ByteSlice;
 
 use crate::{
-    commits::lfs,
+    commits::{libc_lfs, memchr_lfs},
     race::{race, Race},
 };
 
@@ -35,7 +34,7 @@ pub fn rows() -> Vec<(&'static str, [Race; 2])> {
             message.resize(LIMIT, b'x');
             let ours = || end(black_box(&message));
             let races = [
-                race(|| lfs(black_box(&message)), ours),
+                race(|| libc_lfs(black_box(&message)), ours),
                 race(|| memchr_lfs(black_box(&message)), ours),
             ];
             (
@@ -44,16 +43,6 @@ pub fn rows() -> Vec<(&'static str, [Race; 2])> {
             )
         })
         .collect()
-}
-
-/// Where the message ends, by memchr's search for each line's LF.
-#[inline(never)]
-fn memchr_lfs(message: &[u8]) -> u64 {
-    let mut at = 0;
-    while let Some(len) = message[at..].find_byte(b'\n') {
-        at += len + 1;
-    }
-    message.len() as u64
 }
 
 #[inline(never)]

@@ -1,17 +1,17 @@
 //! Numbers from the top: the cursor of the end of a mebibyte, whose LFs are all counted, beside libc's memchr passing over the same
 //! text, which looks for a byte that is not there.
 
-use std::{
-    ffi::{c_int, c_void},
-    hint::black_box,
-};
+use std::hint::black_box;
 
 use compare::{
     answers::{Cursor, LIMIT},
     archive::{self, OK, RESULT_LEN},
 };
 
-use crate::race::{race, Race};
+use crate::{
+    libc,
+    race::{race, Race},
+};
 
 /// What the text is made of.
 const LINES: &[(&str, &[u8])] = &[
@@ -37,16 +37,9 @@ pub fn rows() -> Vec<(&'static str, Race)> {
         .collect()
 }
 
-extern "C" {
-    fn memchr(text: *const c_void, byte: c_int, len: usize) -> *const c_void;
-}
-
 /// How far memchr comes.
-#[inline(never)]
 fn passed(text: &[u8]) -> u64 {
-    // SAFETY: the pointer is good for the length.
-    let found = unsafe { memchr(text.as_ptr().cast(), 0, text.len()) };
-    assert!(found.is_null());
+    assert!(libc::find(text, 0).is_none());
     text.len() as u64
 }
 

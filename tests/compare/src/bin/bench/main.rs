@@ -20,6 +20,7 @@ mod calls;
 mod commits;
 mod divider;
 mod feet;
+mod libc;
 #[cfg(feature = "libgit2")]
 mod libgit2;
 mod lines;
@@ -100,9 +101,9 @@ fn plain(shapes: &[Shape]) {
             whole / half
         );
     }
-    for (name, [own, memchr]) in divider::rows() {
-        line("message end, beside a search", name, &own);
-        line("message end, beside memchr", name, &memchr);
+    for (name, [libc, memchr]) in divider::rows() {
+        line("message end, beside a search", name, &libc);
+        line("message end, beside the crate's", name, &memchr);
     }
     let (name, Row { call, race }) = night::report();
     line(call, &name, &race);
@@ -200,12 +201,12 @@ fn commit_table() {
 
 /// Messages without a divider: how many times as long as a search for their LFs finding their end takes.
 fn divider_table() -> ExitCode {
-    println!("\n| 1 MiB without a divider | message end | message end, beside memchr |\n|---|---:|---:|");
+    println!("\n| 1 MiB without a divider | message end | message end, beside the crate's |\n|---|---:|---:|");
     let mut slow = false;
     for (name, races) in divider::rows() {
-        let [own, memchr] = races.map(|race| 1.0 / race.ratio);
-        slow |= own > 2.0;
-        println!("| {name} | {own:.2} | {memchr:.2} |");
+        let [libc, memchr] = races.map(|race| 1.0 / race.ratio);
+        slow |= libc > 2.0;
+        println!("| {name} | {libc:.2} | {memchr:.2} |");
     }
     ExitCode::from(u8::from(slow))
 }
