@@ -225,6 +225,38 @@ pub fn near_words() -> Vec<Vec<u8>> {
     inputs
 }
 
+/// What a search by words, runs or blocks has to see wherever it stands: line ends, two of them, blanks before one, a separator.
+const EDGES: &[&[u8]] = &[
+    b"\n",
+    b"\n\n",
+    b"\r\n\r\n",
+    b"\n\r\n",
+    b"\r\n\n",
+    b"\n\r",
+    b" \n",
+    b"\t\n\n",
+    b"\x0b\n",
+    b": ",
+];
+
+/// The longest way to one of them: two blocks of 128 bytes, and more than a run.
+const FARTHEST: usize = 290;
+
+/// Each of them at every place up to there: behind text that begins a message, before text that ends one, and before blanks.
+pub fn edges() -> Vec<Vec<u8>> {
+    let mut out = Vec::new();
+    for &edge in EDGES {
+        for n in 0..=FARTHEST {
+            let (text, blanks) = (&vec![b'x'; n][..], &vec![b' '; n][..]);
+            out.push([text, edge, b"y\n\nA: b\n c\n"].concat());
+            out.push([b"t\nu", edge, text, b"\n\nA: b"].concat());
+            out.push([b"t\n\nA: b", edge, text].concat());
+            out.push([b"t\n\nA: b", edge, blanks].concat());
+        }
+    }
+    out
+}
+
 /// The copies of a word in which one byte is another, is missing or stands twice.
 fn near(word: &[u8]) -> Vec<Vec<u8>> {
     let mut copies = Vec::new();
@@ -627,6 +659,9 @@ impl Plan {
         }
         for input in near_white() {
             visit("near white space", &input)?;
+        }
+        for input in edges() {
+            visit("at an edge of a run", &input)?;
         }
         for alphabet in ALPHABETS {
             let depth = alphabet.depth.saturating_add_signed(self.deeper);
