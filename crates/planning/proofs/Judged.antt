@@ -7,16 +7,17 @@ use native.Mathlib.Omega.{arith}
 use borrow.Author.Tests.{le-ltb, lt-ltb}
 use lib.Dec.{eqb}
 use lib.ListN.{length, take, length-map}
-use lib.Seq.{take-length}
-use Rattle.divider.proofs.Readings.{handed-on, read-short, read-taken, read-within}
+use lib.Seq.{length-take-le, take-length}
+use Rattle.divider.proofs.Readings.{handed-on, read-short, read-within}
 use Rattle.divider.specs.Readings.{read}
 use Rattle.divider.specs.declared.Reading.{Reading}
 use Rattle.foot.proofs.Finding.{FoundAt}
 use Rattle.foot.proofs.Tells.{foot-records, foot-values}
-use Rattle.foot.specs.Foot.{foot, looked}
+use Rattle.foot.proofs.Told.{foot-fits}
 use Rattle.foot.specs.Found.{footCursor, footStart, linesFrom}
 use Rattle.message.specs.Message.{walkStart}
 use Rattle.rules.specs.Answers.{Said, limit, number}
+use Rattle.rules.specs.Lists.{if_then_else_}
 use Rattle.rules.specs.Number.{cursorFits}
 use Rattle.rules.specs.Trailer.{walkFrom}
 use Rattle.rules.specs.declared.Cursor.{Cursor}
@@ -31,24 +32,24 @@ use Rattle.listing.specs.declared.Counts.{Counts}
 use Rattle.listing.specs.declared.Listing.{Listing}
 use Rattle.planning.specs.declared.Scope.{Scope}
 use Rattle.listing.specs.declared.Told.{Told}
-use Rattle.planning.specs.Planning.{beginning, countsAt, refusing, settledSays}
+use Rattle.planning.specs.Openings.{Closes, Opens}
+use Rattle.planning.specs.Planning.{beginning, countsAt, fresh, refusing, settledSays}
 
 pub refused : {input : List ℕ} {said : Said} {records : List TrailerRef} {values : List ℕ} {rooms room : ℕ} (outcome : Listing)
     → listingSays outcome ≡ said → eqb (number (listingSays outcome)) 0 ≡ false → Begun input said records values rooms room (refusing outcome)
 refused outcome e n = refuses refl e (rw (← e) n)
 
-same-number : (o : Listing) (c : Counts) → number (listingSays (withCounts o c)) ≡ number (listingSays o)
-same-number (Listing.Listed k) c = refl
-same-number (Listing.FootListed k looked) c = refl
-same-number Listing.TooLong c = refl
-same-number Listing.BadPlace c = refl
-same-number Listing.MoreBytes c = refl
-same-number (Listing.ShortTable k) c = refl
-same-number (Listing.NoRoom k) c = refl
+-- the answer of a listing that is not refused has the number 0, whatever its counts are at the end
+fresh-lists : (told : Told) (looked-at : ℕ) (k : Counts) → number (listingSays (withCounts (fresh told looked-at) k)) ≡ 0
+fresh-lists told looked-at k = by (told .«from_end»)
+  where
+    by : (b : Bool) → number (listingSays (withCounts (if b then Listing.FootListed (counts 0 0) looked-at else Listing.Listed (counts 0 0)) k)) ≡ 0
+    by true = refl
+    by false = refl
 
-module _ (text : List ℕ) (c : Cursor) (outcome : Listing) (told : Told) (rooms room : ℕ) where
-  abbrev Settles : Beginning → Type 0
-  Settles b = Begun text (settledSays text c outcome rooms room) (map (tell told) (recordsFrom text c)) (valuesFrom text c) rooms room b
+module _ (text : List ℕ) (c : Cursor) (looked-at : ℕ) (told : Told) (rooms room : ℕ) where
+  abbrev pub Settles : Beginning → Type 0
+  Settles b = Begun text (settledSays text c (fresh told looked-at) rooms room) (map (tell told) (recordsFrom text c)) (valuesFrom text c) rooms room b
 
   told-count : length (map (tell told) (recordsFrom text c)) ≡ length (recordsFrom text c)
   told-count = length-map (recordsFrom text c) (tell told)
@@ -69,10 +70,9 @@ module _ (text : List ℕ) (c : Cursor) (outcome : Listing) (told : Told) (rooms
     pub no-room : k .records ≤ rooms → room < k .bytes → Settles (refusing (Listing.NoRoom k))
     no-room h r = refused (Listing.NoRoom k) (rw (records-are, bytes-are, le-ltb rooms (k .records) h, lt-ltb room (k .bytes) r)) refl
 
-  pub all-fit : cursorFits c text ≡ true → eqb (number (listingSays outcome)) 0 ≡ true
-      → length (walkFrom text (c .at)) ≤ rooms → length (valuesFrom text c) ≤ room
-      → Settles (beginning text c outcome told)
-  all-fit placed fine h r =
+  pub all-fit : cursorFits c text ≡ true → length (walkFrom text (c .at)) ≤ rooms → length (valuesFrom text c) ≤ room
+      → Settles (beginning text c (fresh told looked-at) told)
+  all-fit placed h r =
       let few = le-ltb rooms (length (recordsFrom text c)) (omega (arith, count-is, h)) in
       let fits = le-ltb room (length (valuesFrom text c)) r in
       lists text (omega arith) (take-length text) (record {
@@ -83,7 +83,7 @@ module _ (text : List ℕ) (c : Cursor) (outcome : Listing) (told : Told) (rooms
         records-fit = omega (arith, told-count, count-is, h);
         bytes-fit = r;
         at-last = rw (told-count, few, fits);
-        fine = rw (few, fits) (ap (λ (n : ℕ). eqb n 0) (same-number outcome (counts (length (recordsFrom text c)) (length (valuesFrom text c)))) ∙ fine);
+        fine = rw (few, fits) (ap (λ (n : ℕ). eqb n 0) (fresh-lists told looked-at (counts (length (recordsFrom text c)) (length (valuesFrom text c)))));
       })
 
 -- told from the front, records are as they are
@@ -91,32 +91,71 @@ told-front : (rs : List TrailerRef) → map (tell fromFront) rs ≡ rs
 told-front [] = refl
 told-front (r ∷ rs) = ap (λ (xs : List TrailerRef). r ∷ xs) (told-front rs)
 
-pub begun-plain : {text : List ℕ} {said : Said} {records : List TrailerRef} {values : List ℕ} {rooms room : ℕ} {p : Beginning}
-    → Begun text said (map (tell fromFront) records) values rooms room p → Begun text said records values rooms room p
-begun-plain {records = records} b = rw (told-front records) at b
+-- ---- what there is to list
 
--- the listing of a message, from that of the text that is read of it
-pub message-begun : (message : List ℕ) (reading : Reading) (rooms room : ℕ) {end : ℕ} {c : Cursor} {p : Beginning} → end ≡ length (read reading message)
-    → length message ≤ limit → (c ≡ walkStart (take end message)) × (cursorFits c (take end message) ≡ true)
-    → Begun (take end message) (settledSays (take end message) c (Listing.Listed (counts 0 0)) rooms room) (recordsFrom (take end message) c) (valuesFrom (take end message) c) rooms room p
-    → Begun message (scopeAnswer message (Scope.Message reading) rooms room) (scopeRecords message (Scope.Message reading)) (scopeValues message (Scope.Message reading)) rooms room p
-message-begun message reading rooms room {end} {c} {p} e short (at, fits) b =
+pub from-opens : (input : List ℕ) (c : Cursor) → length input ≤ limit → cursorFits c input ≡ true →
+    Opens input (Scope.From c) (length input) c 0 fromFront
+from-opens input c short fits =
+    let all : take (length input) input ≡ input = take-length input in
+    record {
+      within = omega arith;
+      fits = rw all fits;
+      answers = λ rooms room. rw (all, le-ltb limit (length input) short, fits);
+      records-are = rw all (sym (told-front (recordsFrom input c)));
+      values-are = rw all;
+    }
+
+-- of a message: the text that is read of it, from where its walk begins
+pub message-opens : (message : List ℕ) (reading : Reading) {end : ℕ} {c : Cursor} → end ≡ length (read reading message) → length message ≤ limit →
+    (c ≡ walkStart (take end message)) × (cursorFits c (take end message) ≡ true) → Opens message (Scope.Message reading) end c 0 fromFront
+message-opens message reading {end} {c} e short (at, fits) =
     let m : List ℕ = read reading message in
     let same : take end message ≡ m = handed-on reading message e .0 in
     let long = le-ltb limit (length message) short in
     let at′ : c ≡ walkStart m = rw same at at in
     let fits′ : cursorFits (walkStart m) m ≡ true = rw (same, at′) at fits in
-    let b′ : Begun m (settledSays m (walkStart m) (Listing.Listed (counts 0 0)) rooms room) (recordsFrom m (walkStart m)) (valuesFrom m (walkStart m)) rooms room p = rw (same, at′) at b in
-    rw (long, read-short reading message long, fits′) (begun-front (read-within reading message) (read-taken reading message) b′)
+    record {
+      within = omega (arith, e, read-within reading message);
+      fits = fits;
+      answers = λ rooms room. rw (same, at′, long, read-short reading message long, fits′);
+      records-are = rw (same, at′) (sym (told-front (recordsFrom m (walkStart m))));
+      values-are = rw (same, at′);
+    }
 
--- the listing of a foot, from that of the last bytes of a body
-pub foot-begun : (tail : List ℕ) (whole : Bool) (rooms room : ℕ) {at lines looked-at : ℕ} {p : Beginning} → length tail ≤ limit → FoundAt tail whole at lines looked-at
-    → Begun tail (settledSays tail (record { at = at; line = 1 }) (Listing.FootListed (counts 0 0) looked-at) rooms room)
-    (map (tell (fromEnd (length tail) lines)) (recordsFrom tail (record { at = at; line = 1 }))) (valuesFrom tail (record { at = at; line = 1 })) rooms room p
-    → Begun tail (scopeAnswer tail (Scope.Foot whole) rooms room) (scopeRecords tail (Scope.Foot whole)) (scopeValues tail (Scope.Foot whole)) rooms room p
-foot-begun tail whole rooms room {p = p} short f b =
+-- of a foot: the last bytes of a body, from where the walk of their trailers begins
+pub foot-opens : (tail : List ℕ) (whole : Bool) {at lines looked-at : ℕ} → length tail ≤ limit → FoundAt tail whole at lines looked-at →
+    Opens tail (Scope.Foot whole) (length tail) (record { at = at; line = 1 }) looked-at (fromEnd (length tail) lines)
+foot-opens tail whole short f =
     let c : Cursor = footCursor tail in
     let told : Told = fromEnd (length tail) (linesFrom tail (footStart tail)) in
-    let b′ : Begun tail (settledSays tail c (Listing.FootListed (counts 0 0) (looked (foot tail whole))) rooms room) (map (tell told) (recordsFrom tail c)) (valuesFrom tail c) rooms room p =
-    rw (f .at-is, f .lines-is, f .looked-at-is) at b in
-    rw (le-ltb limit (length tail) short, f .is-enough, foot-records tail whole (f .is-enough), foot-values tail whole (f .is-enough), length-map (recordsFrom tail c) (tell told)) b′
+    let all : take (length tail) tail ≡ tail = take-length tail in
+    let enough = f .is-enough in
+    record {
+      within = omega arith;
+      fits = rw (all, f .at-is) (foot-fits tail);
+      answers = λ rooms room. rw (
+        all,
+        f .at-is,
+        f .looked-at-is,
+        le-ltb limit (length tail) short,
+        enough,
+        foot-records tail whole enough,
+        foot-values tail whole enough,
+        length-map (recordsFrom tail c) (tell told),
+      );
+      records-are = rw (all, f .at-is, f .lines-is) (foot-records tail whole enough);
+      values-are = rw (all, f .at-is) (foot-values tail whole enough);
+    }
+
+-- ---- so a listing begins as that of its text does, or is refused
+
+pub opens-begun : {input : List ℕ} {w : Scope} {end : ℕ} {c : Cursor} {looked-at : ℕ} {told : Told} {rooms room : ℕ} {b : Beginning} →
+    Opens input w end c looked-at told → Settles (take end input) c looked-at told rooms room b →
+    Begun input (scopeAnswer input w rooms room) (scopeRecords input w) (scopeValues input w) rooms room b
+opens-begun {input} {end = end} {rooms = rooms} {room} o b =
+    let size : length (take end input) ≡ end = length-take-le end input (o .within) in
+    rw (o .answers rooms room, o .records-are, o .values-are) (begun-front (omega (arith, size, o .within)) (rw size) b)
+
+pub closes-begun : {input : List ℕ} {w : Scope} {outcome : Listing} {rooms room : ℕ} → Closes input w outcome →
+    Begun input (scopeAnswer input w rooms room) (scopeRecords input w) (scopeValues input w) rooms room (refusing outcome)
+closes-begun {outcome = outcome} {rooms} {room} r = refused outcome (sym (r .answers rooms room)) (r .refuses)

@@ -5,6 +5,7 @@ use mathlib.Core.Path.{_≡_}
 use Prim.Native.Nat.{ℕ, _+_, _≤_}
 use lib.ListN.{length}
 use Rattle.rules.specs.Answers.{Said, judged}
+use Rattle.rules.specs.Lists.{if_then_else_}
 use Rattle.rules.specs.Trailer.{walkFrom}
 use Rattle.rules.specs.declared.Cursor.{Cursor}
 use Rattle.rules.specs.declared.TrailerRef.{TrailerRef}
@@ -48,6 +49,10 @@ refusing outcome = record { spot = standing 0 (record { at = 0; line = 0 }) (cou
 
 abbrev pub beginning : List ℕ → Cursor → Listing → Told → Beginning
 beginning text c outcome told = record { spot = standing (length text) c (counts 0 0) (walkFrom text (c .at)); outcome = outcome; told = told }
+
+-- the answer of a listing that has written nothing yet: of a foot, told from the end, it has the lines looked at too
+abbrev pub fresh : Told → ℕ → Listing
+fresh told looked = if told .«from_end» then Listing.FootListed (counts 0 0) looked else Listing.Listed (counts 0 0)
 
 -- what is said of a text from a cursor that fits, `outcome` where all is listed
 abbrev pub settledSays : List ℕ → Cursor → Listing → ℕ → ℕ → Said

@@ -3,19 +3,16 @@ ghost use mathlib.Core.Bool.{true};
 ghost use mathlib.Core.List.{[], map};
 ghost use mathlib.Core.Path.{_≡_};
 ghost use Prim.Native.Nat.{_+_, _-_, _≤_, _<_, _^_};
-ghost use lib.Dec.{eqb};
 ghost use lib.ListN.{length};
-ghost use Rattle.rules.specs.Answers.{number};
 ghost use Rattle.rules.specs.Number.{cursorFits};
 ghost use Rattle.rules.specs.Trailer.{walkFrom};
 ghost use Rattle.body.specs.Body.{firstWrites};
-ghost use Rattle.listing.specs.Answers.{listingSays};
 ghost use Rattle.listing.specs.Listing.{distances, fromFront, recordsFrom, shifted, taken, tell, toldValue, valuesFrom};
 ghost use Rattle.listing.specs.Turns.{Begun, Ready, counts, leftAt, onto, readUpTo, standing, turnOf, withCounts};
-ghost use Rattle.listing.specs.declared.Listing.{Listing};
 ghost use Rattle.planning.specs.declared.Scope.{Scope};
+ghost use Rattle.planning.specs.Openings.{Opened};
 ghost use Rattle.planning.specs.Scopes.{scopeAnswer, scopeRecords, scopeValues};
-ghost use Rattle.planning.specs.Planning.{Ample, beginning, countsAt, found, from, refusing, settledSays, stays};
+ghost use Rattle.planning.specs.Planning.{Ample, beginning, countsAt, found, fresh, from, refusing, settledSays, stays};
 use divider::Reading;
 use divider::end_in;
 use find::count::count_lf;
@@ -330,15 +327,24 @@ fn refuse(outcome: Listing) -> Beginning
     }
 }
 
-// Where one begins that is not: it goes from a cursor on, and nothing is written yet.
-fn begin_at(text: &[u8], cursor: Cursor, outcome: Listing, told: Told) -> Beginning
+// Where one begins that is not: it goes from a cursor on, and nothing is written yet. `looked` is how many lines of a foot were looked at;
+// the answer is put together here, since a number is handed on faster than an enum.
+fn begin_at(text: &[u8], cursor: Cursor, looked: usize, told: Told) -> Beginning
     requires { ⌜ cursor .at ≤ length (now text) ⌝ }
-    ensures { λ r. ⌜ r ≡ beginning (now (text .entry)) cursor outcome told ⌝ }
+    ensures { λ r. ⌜ r ≡ beginning (now (text .entry)) cursor (fresh told looked) told ⌝ }
 {
     let spot = stand(text, cursor, none());
+    if told.from_end {
+        let counts = none();
+        return Beginning {
+            spot,
+            outcome: Listing::FootListed { counts, looked },
+            told,
+        };
+    }
     Beginning {
         spot,
-        outcome,
+        outcome: Listing::Listed(none()),
         told,
     }
 }
@@ -347,17 +353,17 @@ fn begin_at(text: &[u8], cursor: Cursor, outcome: Listing, told: Told) -> Beginn
 fn settle(
     text: &[u8],
     cursor: Cursor,
-    outcome: Listing,
+    looked: usize,
     told: Told,
     rooms: usize,
     room: usize,
 ) -> Beginning
-    requires { ⌜ (cursorFits cursor (now text) ≡ true) × (eqb (number (listingSays outcome)) 0 ≡ true) ⌝ }
-    ensures { λ r. ⌜ Begun (now (text .entry)) (settledSays (now (text .entry)) cursor outcome rooms room) (map (tell told) (recordsFrom (now (text .entry)) cursor)) (valuesFrom (now (text .entry)) cursor) rooms room r ⌝ }
+    requires { ⌜ cursorFits cursor (now text) ≡ true ⌝ }
+    ensures { λ r. ⌜ Begun (now (text .entry)) (settledSays (now (text .entry)) cursor (fresh told looked) rooms room) (map (tell told) (recordsFrom (now (text .entry)) cursor)) (valuesFrom (now (text .entry)) cursor) rooms room r ⌝ }
 {
     let at = cursor.at;
     if is_ample(text, at, rooms, room) {
-        return begin_at(text, cursor, outcome, told);
+        return begin_at(text, cursor, looked, told);
     }
     let needed = count(text, at);
     if rooms < needed.records {
@@ -366,73 +372,110 @@ fn settle(
     if room < needed.bytes {
         return refuse(Listing::NoRoom(needed));
     }
-    begin_at(text, cursor, outcome, told)
+    begin_at(text, cursor, looked, told)
 }
 
-// The answer of a listing that has written nothing yet.
-fn fresh() -> Listing
-    ensures { λ r. ⌜ r ≡ Listing.Listed (counts 0 0) ⌝ }
-{
-    Listing::Listed(none())
+// What there is to list: the walk of the first `end` bytes from a cursor on, how its records are told, and, of a foot, how many lines were
+// looked at; or a refusal, whatever room there is.
+enum Opening {
+    At {
+        end: usize,
+        cursor: Cursor,
+        looked: usize,
+        told: Told,
+    },
+    Refused(Listing),
 }
 
 // From a cursor on.
-fn begin_from(input: &[u8], cursor: Cursor, rooms: usize, room: usize) -> Beginning
-    ensures { λ r. ⌜ Begun (now (input .entry)) (scopeAnswer (now (input .entry)) (Scope.From cursor) rooms room) (scopeRecords (now (input .entry)) (Scope.From cursor)) (scopeValues (now (input .entry)) (Scope.From cursor)) rooms room r ⌝ }
+fn opening_from(input: &[u8], cursor: Cursor) -> Opening
+    ensures { λ r. ⌜ Opened (now (input .entry)) (Scope.From cursor) r ⌝ }
 {
-    if input.len() > LIMIT {
-        return refuse(Listing::TooLong);
+    let end = input.len();
+    if end > LIMIT {
+        return Opening::Refused(Listing::TooLong);
     }
     if !cursor_fits(cursor, input) {
-        return refuse(Listing::BadPlace);
+        return Opening::Refused(Listing::BadPlace);
     }
-    settle(input, cursor, fresh(), from_front(), rooms, room)
+    let told = from_front();
+    Opening::At {
+        end,
+        cursor,
+        looked: 0,
+        told,
+    }
 }
 
 // Of a message in a reading.
-fn begin_message(message: &[u8], reading: Reading, rooms: usize, room: usize) -> Beginning
-    ensures { λ r. ⌜ Begun (now (message .entry)) (scopeAnswer (now (message .entry)) (Scope.Message reading) rooms room) (scopeRecords (now (message .entry)) (Scope.Message reading)) (scopeValues (now (message .entry)) (Scope.Message reading)) rooms room r ⌝ }
+fn opening_message(message: &[u8], reading: Reading) -> Opening
+    ensures { λ r. ⌜ Opened (now (message .entry)) (Scope.Message reading) r ⌝ }
 {
     if message.len() > LIMIT {
-        return refuse(Listing::TooLong);
+        return Opening::Refused(Listing::TooLong);
     }
     let end = end_in(message, reading);
     let text = &message[..end];
     let WalkFound::From(cursor) = message_trailers(text) else {
-        return refuse(Listing::TooLong);
+        return Opening::Refused(Listing::TooLong);
     };
-    settle(text, cursor, fresh(), from_front(), rooms, room)
+    let told = from_front();
+    Opening::At {
+        end,
+        cursor,
+        looked: 0,
+        told,
+    }
 }
 
 // Of a body's foot.
-fn begin_foot(tail: &[u8], whole: bool, rooms: usize, room: usize) -> Beginning
-    ensures { λ r. ⌜ Begun (now (tail .entry)) (scopeAnswer (now (tail .entry)) (Scope.Foot whole) rooms room) (scopeRecords (now (tail .entry)) (Scope.Foot whole)) (scopeValues (now (tail .entry)) (Scope.Foot whole)) rooms room r ⌝ }
+fn opening_foot(tail: &[u8], whole: bool) -> Opening
+    ensures { λ r. ⌜ Opened (now (tail .entry)) (Scope.Foot whole) r ⌝ }
 {
-    let size = tail.len();
-    if size > LIMIT {
-        return refuse(Listing::TooLong);
+    let end = tail.len();
+    if end > LIMIT {
+        return Opening::Refused(Listing::TooLong);
     }
     let FootFound::At { at, lines, looked } = find_foot(tail, whole) else {
-        return refuse(Listing::MoreBytes);
+        return Opening::Refused(Listing::MoreBytes);
     };
-    let counts = none();
     let cursor = Cursor { at, line: 1 };
-    let outcome = Listing::FootListed { counts, looked };
     let told = Told {
         from_end: true,
-        size,
+        size: end,
         lines,
     };
-    settle(tail, cursor, outcome, told, rooms, room)
+    Opening::At {
+        end,
+        cursor,
+        looked,
+        told,
+    }
+}
+
+// What there is to list of an input.
+fn opening_of(input: &[u8], scope: Scope) -> Opening
+    ensures { λ r. ⌜ Opened (now (input .entry)) scope r ⌝ }
+{
+    match scope {
+        Scope::From(cursor) => opening_from(input, cursor),
+        Scope::Message(reading) => opening_message(input, reading),
+        Scope::Foot(whole) => opening_foot(input, whole),
+    }
 }
 
 // Where a listing begins, with so many rooms for records and so much room for bytes; what it answers is settled there.
 pub fn begin(input: &[u8], scope: Scope, rooms: usize, room: usize) -> Beginning
     ensures { λ r. ⌜ Begun (now (input .entry)) (scopeAnswer (now (input .entry)) scope rooms room) (scopeRecords (now (input .entry)) scope) (scopeValues (now (input .entry)) scope) rooms room r ⌝ }
 {
-    match scope {
-        Scope::From(cursor) => begin_from(input, cursor, rooms, room),
-        Scope::Message(reading) => begin_message(input, reading, rooms, room),
-        Scope::Foot(whole) => begin_foot(input, whole, rooms, room),
+    let opening = opening_of(input, scope);
+    match opening {
+        Opening::At {
+            end,
+            cursor,
+            looked,
+            told,
+        } => settle(&input[..end], cursor, looked, told, rooms, room),
+        Opening::Refused(outcome) => refuse(outcome),
     }
 }

@@ -1,45 +1,52 @@
 -- `planning::begin` meets its contract. Assumes nothing.
+use mathlib.Core.Path.{sym}
 use borrow.Author.Needs.{needs}
+use lib.Seq.{length-take-le}
+use Rattle.planning.specs.Openings.{Opens}
+use Rattle.planning.proofs.Judged.{closes-begun, opens-begun}
 use Rattle.planning.proofs.begin.Statement.{statement}
 use Rattle.planning.proofs.begin.Tie as tie
 
-enum-known-scope : tie.Need-enum-known-scope
-enum-known-scope c = search needs
+opening-of-requires : tie.Need-opening-of-requires
+opening-of-requires c κs = search needs
 
-begin-from-requires : tie.Need-begin-from-requires
-begin-from-requires c κs = search needs
+enum-known-opening : tie.Need-enum-known-opening
+enum-known-opening c = search needs
 
-enum-known-scope-2 : tie.Need-enum-known-scope-2
-enum-known-scope-2 c = search needs
+-- what there is to list
+opens : (g : tie.After-opening) → let a = g .before .before .before .before .args in let at = g .opening .given .0 in
+    Opens (a .input .now) (a .scope) (at .0) (at .1 .0) (at .1 .1 .0) (at .1 .1 .1 .0)
+opens g = rw (g .opening .given .1) at (g .before .before .opening-of .ensures)
 
-begin-message-requires : tie.Need-begin-message-requires
-begin-message-requires c κs = search needs
+slice-aggregate-settle : tie.Need-slice-aggregate-settle
+slice-aggregate-settle c = sym (length-take-le _ _ (opens (c .before .before) .within))
 
-enum-known-scope-3 : tie.Need-enum-known-scope-3
-enum-known-scope-3 c = search needs
+settle-requires : tie.Need-settle-requires
+settle-requires c κs = opens (c .before .before) .fits
 
-begin-foot-requires : tie.Need-begin-foot-requires
-begin-foot-requires c κs = search needs
+enum-known-opening-2 : tie.Need-enum-known-opening-2
+enum-known-opening-2 c = search needs
+
+refuse-requires : tie.Need-refuse-requires
+refuse-requires c κs = search needs
 
 returns : tie.Need-returns
-returns c = rw (c .before .before .scope .given .1) (c .begin-from .ensures)
+returns c = opens-begun (opens (c .before .before .before)) (c .settle .ensures)
 
 returns-2 : tie.Need-returns-2
-returns-2 c = rw (c .before .before .scope2 .given .1) (c .begin-message .ensures)
-
-returns-3 : tie.Need-returns-3
-returns-3 c = rw (c .before .before .scope3 .given .1) (c .begin-foot .ensures)
+returns-2 c =
+    let g = c .before .before in
+    rw (c .refuse .ensures) (closes-begun (rw (g .opening2 .given .1) at (g .before .before .opening-of .ensures)))
 
 pub begin-spec : {M : Type 1} → statement M
 begin-spec =
     tie.close
     (tie.spec
-    enum-known-scope
-    begin-from-requires
-    enum-known-scope-2
-    begin-message-requires
-    enum-known-scope-3
-    begin-foot-requires
+    opening-of-requires
+    enum-known-opening
+    slice-aggregate-settle
+    settle-requires
+    enum-known-opening-2
+    refuse-requires
     returns
-    returns-2
-    returns-3)
+    returns-2)

@@ -1,4 +1,4 @@
--- `planning::begin_message` meets its contract. Assumes nothing.
+-- `planning::opening_message` meets its contract. Assumes nothing.
 use mathlib.Core.Path.{_≡_, refl, sym, ap, _∙_}
 use native.Mathlib.Omega.{arith}
 use borrow.Author.Tests.{lt-ltb, ltb-true}
@@ -8,19 +8,15 @@ use Rattle.divider.proofs.Readings.{handed-on, read-within}
 use mathlib.Core.Bool.{true}
 use Rattle.message.specs.Message.{walkStart}
 use Rattle.rules.specs.Number.{cursorFits}
-use Rattle.listing.specs.declared.Listing.{Listing}
 use Rattle.message.proofs.Started.{started}
-use Rattle.planning.proofs.Judged.{begun-plain, message-begun, refused}
+use Rattle.planning.proofs.Judged.{message-opens}
 use Rattle.planning.proofs.Refused.{refused-long}
 use borrow.Author.Needs.{needs}
-use Rattle.planning.proofs.begin_message.Statement.{statement}
-use Rattle.planning.proofs.begin_message.Tie as tie
-
-refuse-requires : tie.Need-refuse-requires
-refuse-requires c κs = search needs
+use Rattle.planning.proofs.opening_message.Statement.{statement}
+use Rattle.planning.proofs.opening_message.Tie as tie
 
 returns : tie.Need-returns
-returns c = let k = lt-ltb limit _ (c .before .if1 .taken) in rw (c .refuse .ensures) (refused Listing.TooLong (rw k) refl)
+returns c = let k = lt-ltb limit _ (c .if1 .taken) in record { answers = λ rooms room. rw k; refuses = refl }
 
 end-in-requires : tie.Need-end-in-requires
 end-in-requires c κs = search needs
@@ -44,20 +40,14 @@ enum-known-cursor c = search needs
 enum-told : tie.Need-enum-told
 enum-told c = search needs
 
-refuse-requires-2 : tie.Need-refuse-requires-2
-refuse-requires-2 c κs = search needs
-
 returns-2 : tie.Need-returns-2
 returns-2 c =
-    let m = c .before .before .before in
+    let m = c .before .before in
     let e = m .before .before in
     let a = start e .args in
     let text = take (e .end-in .result) (a .message .now) in
-    let long = ltb-true limit (length text) (refused-long text (c .before .enum-told .given .0 .0) (ap walkFoundSays (sym (c .before .enum-told .given .1)) ∙ m .message-trailers .ensures)) in
+    let long = ltb-true limit (length text) (refused-long text (c .enum-told .given .0 .0) (ap walkFoundSays (sym (c .enum-told .given .1)) ∙ m .message-trailers .ensures)) in
     absurd (omega (arith, long, handed-on (a .reading) (a .message .now) (e .end-in .ensures) .1, e .end-in .ensures, read-within (a .reading) (a .message .now), e .before .if1 .left))
-
-fresh-requires : tie.Need-fresh-requires
-fresh-requires c κs = search needs
 
 -- the cursor is where the walk begins in the text that is read
 begins : (f : tie.After-cursor) → let e = f .before .before .before .before in let text = take (e .end-in .result) (start e .args .message .now) in
@@ -67,30 +57,23 @@ begins f = started _ _ (ap walkFoundSays (sym (f .cursor .given .1)) ∙ f .befo
 from-front-requires : tie.Need-from-front-requires
 from-front-requires c κs = search needs
 
-settle-requires : tie.Need-settle-requires
-settle-requires c κs = (begins (c .before .before .before) .1, rw (c .before .fresh .ensures) refl)
-
 returns-3 : tie.Need-returns-3
 returns-3 c =
-    let f = c .before .before .before .before in
+    let f = c .before .before in
     let e = f .before .before .before .before in
     let a = start e .args in
-    message-begun (a .message .now) (a .reading) (a .rooms) (a .room) (e .end-in .ensures) (e .before .if1 .left) (begins f) (begun-plain (rw (c .before .from-front .ensures, c .before .before .fresh .ensures) at (c .settle .ensures)))
+    rw (c .from-front .ensures) (message-opens (a .message .now) (a .reading) (e .end-in .ensures) (e .before .if1 .left) (begins f))
 
-pub begin-message-spec : {M : Type 1} → statement M
-begin-message-spec =
+pub opening-message-spec : {M : Type 1} → statement M
+opening-message-spec =
     tie.close
     (tie.spec
-    refuse-requires
     returns
     end-in-requires
     slice-aggregate-text
     message-trailers-requires
     enum-known-cursor
     enum-told
-    refuse-requires-2
     returns-2
-    fresh-requires
     from-front-requires
-    settle-requires
     returns-3)
