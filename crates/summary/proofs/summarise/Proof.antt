@@ -1,9 +1,9 @@
 -- `summary::summarise` meets its contract. Assumes nothing.
-use mathlib.Core.Bool.{Bool, true, false, false≢true, not}
-use mathlib.Core.Path.{_≡_, refl, sym, _∙_}
+use mathlib.Core.Path.{_≡_, sym, _∙_}
 use Prim.Native.Nat.{_≤_}
 use native.Mathlib.Omega.{arith}
 use borrow.Author.Needs.{needs}
+use borrow.Author.Tests.{not-true}
 use lib.ListN.{length, take}
 use lib.Seq.{length-take-le}
 use Rattle.rules.specs.Summary.{added, pieces, spaced}
@@ -13,10 +13,6 @@ use Rattle.summary.proofs.Pieces.{found-within}
 use Rattle.summary.proofs.Stop.{kept-fits, kept-summary, stop-fits}
 use Rattle.summary.proofs.summarise.Statement.{statement}
 use Rattle.summary.proofs.summarise.Tie as tie
-
-not-true : (b : Bool) → not b ≡ true → b ≡ false
-not-true true e = absurd (false≢true e)
-not-true false e = refl
 
 find-followed-requires : tie.Need-find-followed-requires
 find-followed-requires c κs =
