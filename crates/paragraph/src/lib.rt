@@ -3,11 +3,12 @@ ghost use mathlib.Core.Path.{_≡_};
 ghost use Prim.Native.Nat.{_+_, _*_, _^_, _<_, _≤_};
 ghost use lib.ListN.{length, take};
 ghost use Rattle.rules.specs.Lines.{lines};
-ghost use Rattle.rules.specs.Paragraph.{accepts, blockStart, endingBelow, parse, recognised};
+ghost use Rattle.rules.specs.Lists.{starts};
+ghost use Rattle.rules.specs.Paragraph.{accepts, blockStart, cherryPicked, endingBelow, parse, recognised, signedOff};
 ghost use Rattle.paragraph.specs.Scan.{endAbove, lastParagraph, scanned};
 ghost use Rattle.paragraph.specs.Solid.{SolidLen};
 use rules::Ending;
-use text::fixed::starts_with;
+use text::fixed::same_word;
 use text::line::before_blanks;
 use text::line::is_ascii_whitespace;
 use text::line::is_blank_line;
@@ -33,19 +34,36 @@ pub struct Paragraph {
     pub scan: Scan,
 }
 
-// The prefixes that Git writes itself.
-const SIGNED_OFF: [u8; 15] = *b"Signed-off-by: ";
+// Whether a line starts with `Signed-off-by: `: its first eight bytes and its last.
+fn is_signed_off(line: &[u8]) -> bool
+    ensures { λ r. ⌜ r ≡ starts signedOff (now (line .entry)) ⌝ }
+{
+    if line.len() < 15 {
+        return false;
+    }
+    same_word(&line[..8], b"Signed-o") & same_word(&line[7..15], b"off-by: ")
+}
 
-const CHERRY_PICKED: [u8; 27] = *b"(cherry picked from commit ";
+// Whether a line starts with `(cherry picked from commit `, in the same way.
+fn is_cherry_picked(line: &[u8]) -> bool
+    ensures { λ r. ⌜ r ≡ starts cherryPicked (now (line .entry)) ⌝ }
+{
+    if line.len() < 27 {
+        return false;
+    }
+    if !same_word(&line[..8], b"(cherry ") {
+        return false;
+    }
+    same_word(&line[8..16], b"picked f")
+        & same_word(&line[16..24], b"rom comm")
+        & same_word(&line[19..27], b" commit ")
+}
 
 // Whether a line starts with one of the prefixes that Git writes itself.
 pub fn is_recognized_prefix(line: &[u8]) -> bool
     ensures { λ r. ⌜ r ≡ recognised (now (line .entry)) ⌝ }
 {
-    if starts_with(line, &SIGNED_OFF) {
-        return true;
-    }
-    starts_with(line, &CHERRY_PICKED)
+    is_signed_off(line) || is_cherry_picked(line)
 }
 
 // What one more line above, which is not blank, adds. An indented line is neither recognised nor a trailer line: that is asked first,

@@ -1,28 +1,26 @@
 // Fixed byte strings: compared with a line's front, and without regard to ASCII case.
 ghost use mathlib.Core.Path.{_≡_};
-ghost use Prim.Native.Nat.{_≤_};
 ghost use lib.ListN.{length};
 ghost use Rattle.rules.specs.Bytes.{lower};
 ghost use Rattle.rules.specs.Lists.{equal, starts};
 ghost use Rattle.rules.specs.Trailer.{same};
 use word::word;
 
-// How many bytes a word has.
-const WORD: usize = 8;
-
-// Whether two words have the same bytes.
-fn same_word(a: &[u8], b: &[u8]) -> bool
+// Whether two words have the same bytes. Of a word that is written out, the compiler makes a number.
+pub fn same_word(a: &[u8], b: &[u8]) -> bool
     requires { ⌜ (length (now a) ≡ 8) × (length (now b) ≡ 8) ⌝ }
     ensures { λ r. ⌜ r ≡ equal (now (a .entry)) (now (b .entry)) ⌝ }
 {
     word(a) == word(b)
 }
 
-// Whether `s`, which is not shorter, starts with `p`, byte by byte.
-fn starts_with_short(s: &[u8], p: &[u8]) -> bool
-    requires { ⌜ length (now p) ≤ length (now s) ⌝ }
+// Whether `s` starts with `p`.
+pub fn starts_with(s: &[u8], p: &[u8]) -> bool
     ensures { λ r. ⌜ r ≡ starts (now (p .entry)) (now (s .entry)) ⌝ }
 {
+    if s.len() < p.len() {
+        return false;
+    }
     let mut i = 0;
     while i < p.len() {
         if s[i] != p[i] {
@@ -31,27 +29,6 @@ fn starts_with_short(s: &[u8], p: &[u8]) -> bool
         i += 1;
     }
     true
-}
-
-// Whether `s` starts with `p`. The last eight bytes of `p` are read as its last word.
-pub fn starts_with(s: &[u8], p: &[u8]) -> bool
-    ensures { λ r. ⌜ r ≡ starts (now (p .entry)) (now (s .entry)) ⌝ }
-{
-    let len = p.len();
-    if s.len() < len {
-        return false;
-    }
-    if len < WORD {
-        return starts_with_short(s, p);
-    }
-    let mut i = 0;
-    while len - i > WORD {
-        if !same_word(&s[i..i + WORD], &p[i..i + WORD]) {
-            return false;
-        }
-        i += WORD;
-    }
-    same_word(&s[len - WORD..len], &p[len - WORD..])
 }
 
 // Whether two byte strings are the same.

@@ -43,6 +43,9 @@ Alike f g = below 256 (λ b. eqb (f b) (g b)) ≡ true
 abbrev pub Keeps : (ℕ → ℕ) → Type 0
 Keeps f = below 256 (λ b. ltb (f b) 256) ≡ true
 
+pub kept : (f : ℕ → ℕ) → Keeps f → (b : ℕ) → b < 256 → f b < 256
+kept f k b h = ltb→lt (f b) 256 (rw (passes 256 (λ b. ltb (f b) 256) k b h) tt)
+
 -- ---- an operation on each byte
 
 pub each-alike : (f g : ℕ → ℕ) → Alike f g → (s : List ℕ) → Bytes s → each f s ≡ each g s
@@ -56,15 +59,18 @@ unfolding each
 each-add f g [] = refl
 each-add f g (b ∷ s) = omega (arith, each-add f g s)
 
+each-times : (f : ℕ → ℕ) (s : List ℕ) → each (λ b. f b * 4) s ≡ each f s * 4
+unfolding each
+each-times f [] = refl
+each-times f (b ∷ s) = omega (arith, each-times f s)
+
 module _ (op : ℕ → ℕ → ℕ) (block : (a b r s : ℕ) → r < 2 ^ 8 → s < 2 ^ 8 → op (a * 2 ^ 8 + r) (b * 2 ^ 8 + s) ≡ op a b * 2 ^ 8 + op r s)
     (none : op 0 0 ≡ 0) where
   each-op : (f g : ℕ → ℕ) → Keeps f → Keeps g → (s : List ℕ) → Bytes s → op (each f s) (each g s) ≡ each (λ b. op (f b) (g b)) s
   unfolding each
   each-op f g kf kg [] h = none
   each-op f g kf kg (b ∷ s) h =
-      let fits : f b < 256 = ltb→lt (f b) 256 (rw (passes 256 (λ b. ltb (f b) 256) kf b (h zero)) tt) in
-      let gits : g b < 256 = ltb→lt (g b) 256 (rw (passes 256 (λ b. ltb (g b) 256) kg b (h zero)) tt) in
-      block (each f s) (each g s) (f b) (g b) fits gits
+      block (each f s) (each g s) (f b) (g b) (kept f kf b (h zero)) (kept g kg b (h zero))
       ∙ ap (λ x. x * 2 ^ 8 + op (f b) (g b)) (each-op f g kf kg s (λ i. h (suc i)))
 
 -- the number of some bytes, each as f gives it
@@ -80,6 +86,11 @@ module _ (s : List ℕ) (h : Bytes s) where
 
   pub added : (f g : ℕ → ℕ) {n m : ℕ} → n ≡ each f s → m ≡ each g s → n + m ≡ each (λ b. f b + g b) s
   added f g p q = ap₂ (λ x y. x + y) p q ∙ each-add f g s
+
+  pub quartered : (f : ℕ → ℕ) {n : ℕ} → Alike f (λ b. f b / 4 * 4) → n ≡ each f s → n / 2 ^ 2 ≡ each (λ b. f b / 4) s
+  quartered f a p =
+      let four = p ∙ each-alike f (λ b. f b / 4 * 4) a s h ∙ each-times (λ b. f b / 4) s in
+      omega (arith, four)
 
 -- the same byte eight times
 unfoldable pub eight : ℕ → ℕ

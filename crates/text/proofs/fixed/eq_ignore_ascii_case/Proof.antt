@@ -1,24 +1,20 @@
 -- `text::fixed::eq_ignore_ascii_case` meets its contract. The invariant: the two are the same, ASCII case aside, just where they
 -- were alike so far and what is left of them is the same. Assumes nothing.
 use mathlib.Core.Bool.{Bool, true, false, and-assoc, and-true, _&&_}
-use mathlib.Core.List.{List, map}
+use mathlib.Core.List.{List}
 use mathlib.Core.Path.{_≡_, sym, _∙_}
 use Prim.Native.Nat.{ℕ, _+_, _-_, _≤_, _<_}
 use native.Mathlib.Numerals.{add-one}
 use native.Mathlib.Omega.{arith}
 use borrow.Author.Needs.{needs}
 use lib.Dec.{eqb}
-use lib.ListN.{length, drop, getD, drop-of-length-le, length-map}
+use lib.ListN.{length, drop, getD, drop-of-length-le}
 use lib.Seq.{drop-cons}
 use Rattle.rules.specs.Bytes.{lower}
 use Rattle.rules.specs.Trailer.{same}
-use Rattle.text.proofs.Equal.{equal-long}
+use Rattle.text.proofs.Equal.{same-long}
 use Rattle.text.proofs.fixed.eq_ignore_ascii_case.Statement.{statement}
 use Rattle.text.proofs.fixed.eq_ignore_ascii_case.Tie as tie
-
-differ : (a b : List ℕ) → (length a ≡ length b → ⊥) → same a b ≡ false
-unfolding same
-differ a b n = equal-long (map lower a) (map lower b) (λ e. n (simp length-map at e))
 
 step : (a b : List ℕ) (i x y : ℕ) (alike : Bool) → i < length a → i < length b → x ≡ lower (getD a i 0) → y ≡ lower (getD b i 0)
     → alike && same (drop i a) (drop i b) ≡ (alike && eqb x y) && same (drop (i + 1) a) (drop (i + 1) b)
@@ -36,7 +32,7 @@ abbrev μ-loop : tie.MeasureT-loop
 μ-loop a b alike₀ i₀ alike i = length a - i
 
 returns : tie.Need-returns Inv-loop μ-loop
-returns c = sym (differ (c .before .before .before .args .a .now) (c .before .before .before .args .b .now) (c .if1 .taken))
+returns c = sym (same-long (c .before .before .before .args .a .now) (c .before .before .before .args .b .now) (c .if1 .taken))
 
 loop-holds : tie.Need-loop-holds Inv-loop μ-loop
 loop-holds c = search needs
