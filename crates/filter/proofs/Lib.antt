@@ -1,2 +1,3 @@
+pub mod Lowered
 pub mod Tokens
 pub mod Steps

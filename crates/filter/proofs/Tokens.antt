@@ -13,7 +13,7 @@ pub author-is : (token : List ℕ) → author token ≡ same token signedOffBy |
 unfolding author
 author-is token = rw (or-false (same token coAuthoredBy))
 
-regroup : (a b c d e f : Bool) → a || (b || (c || (d || (e || (f || false))))) ≡ a || (b || false) || (c || (d || (e || f)))
+regroup : (a b c d e f : Bool) → a || (b || (c || (d || (e || (f || false))))) ≡ ((((a || b) || c) || d) || e) || f
 regroup true b c d e f = refl
 regroup false true c d e f = refl
 regroup false false true d e f = refl
@@ -22,8 +22,8 @@ regroup false false false false true f = refl
 regroup false false false false false f = or-false f
 
 pub attribution-is : (token : List ℕ) → attribution token
-    ≡ author token || (same token assistedBy || (same token ackedBy || (same token reviewedBy || same token testedBy)))
-unfolding attribution author
+    ≡ ((((same token signedOffBy || same token coAuthoredBy) || same token assistedBy) || same token ackedBy) || same token reviewedBy) || same token testedBy
+unfolding attribution
 attribution-is token =
     regroup (same token signedOffBy) (same token coAuthoredBy) (same token assistedBy)
     (same token ackedBy) (same token reviewedBy) (same token testedBy)

@@ -1,55 +1,40 @@
 // The filters of the trailer walk, by the kind of a token and by a name: which trailers a step answers.
+pub mod token;
+
 ghost use mathlib.Core.Path.{_≡_};
 ghost use Prim.Native.Nat.{_≤_};
 ghost use lib.ListN.{length};
 ghost use Rattle.rules.specs.Trailer.{attribution, author, isOf, lookup, only, those, walkFrom};
 ghost use Rattle.trailer.specs.Walk.{nextOf};
 ghost use Rattle.filter.specs.Lookup.{isWanted, lookedUp};
+use crate::token::is_acked_by;
+use crate::token::is_assisted_by;
+use crate::token::is_co_authored_by;
+use crate::token::is_reviewed_by;
+use crate::token::is_signed_off_by;
+use crate::token::is_tested_by;
 use rules::Kind;
 use text::fixed::eq_ignore_ascii_case;
 use trailer::walk::NextTrailer;
 use trailer::walk::next_trailer_from;
 
-// The six attribution tokens.
-const SIGNED_OFF_BY: [u8; 13] = *b"Signed-off-by";
-
-const CO_AUTHORED_BY: [u8; 14] = *b"Co-authored-by";
-
-const ASSISTED_BY: [u8; 11] = *b"Assisted-by";
-
-const ACKED_BY: [u8; 8] = *b"Acked-by";
-
-const REVIEWED_BY: [u8; 11] = *b"Reviewed-by";
-
-const TESTED_BY: [u8; 9] = *b"Tested-by";
-
 // Whether a token is one of the two that name an author.
 fn is_author(token: &[u8]) -> bool
     ensures { λ r. ⌜ r ≡ author (now (token .entry)) ⌝ }
 {
-    if eq_ignore_ascii_case(token, &SIGNED_OFF_BY) {
-        return true;
-    }
-    eq_ignore_ascii_case(token, &CO_AUTHORED_BY)
+    is_signed_off_by(token) | is_co_authored_by(token)
 }
 
 // Whether a token is one of the six attribution tokens.
 fn is_attribution(token: &[u8]) -> bool
     ensures { λ r. ⌜ r ≡ attribution (now (token .entry)) ⌝ }
 {
-    if is_author(token) {
-        return true;
-    }
-    if eq_ignore_ascii_case(token, &ASSISTED_BY) {
-        return true;
-    }
-    if eq_ignore_ascii_case(token, &ACKED_BY) {
-        return true;
-    }
-    if eq_ignore_ascii_case(token, &REVIEWED_BY) {
-        return true;
-    }
-    eq_ignore_ascii_case(token, &TESTED_BY)
+    is_signed_off_by(token)
+        | is_co_authored_by(token)
+        | is_assisted_by(token)
+        | is_acked_by(token)
+        | is_reviewed_by(token)
+        | is_tested_by(token)
 }
 
 // Whether a token is of a kind.
@@ -58,12 +43,12 @@ pub fn is_of(kind: Kind, token: &[u8]) -> bool
 {
     match kind {
         Kind::All => true,
-        Kind::SignedOffBy => eq_ignore_ascii_case(token, &SIGNED_OFF_BY),
-        Kind::CoAuthoredBy => eq_ignore_ascii_case(token, &CO_AUTHORED_BY),
-        Kind::AssistedBy => eq_ignore_ascii_case(token, &ASSISTED_BY),
-        Kind::AckedBy => eq_ignore_ascii_case(token, &ACKED_BY),
-        Kind::ReviewedBy => eq_ignore_ascii_case(token, &REVIEWED_BY),
-        Kind::TestedBy => eq_ignore_ascii_case(token, &TESTED_BY),
+        Kind::SignedOffBy => is_signed_off_by(token),
+        Kind::CoAuthoredBy => is_co_authored_by(token),
+        Kind::AssistedBy => is_assisted_by(token),
+        Kind::AckedBy => is_acked_by(token),
+        Kind::ReviewedBy => is_reviewed_by(token),
+        Kind::TestedBy => is_tested_by(token),
         Kind::Attribution => is_attribution(token),
         Kind::Author => is_author(token),
     }

@@ -9,56 +9,38 @@ enum-told c = search needs
 enum-told-2 : tie.Need-enum-told-2
 enum-told-2 c = search needs
 
-slice-aggregate-eq-ignore-ascii-case : tie.Need-slice-aggregate-eq-ignore-ascii-case
-slice-aggregate-eq-ignore-ascii-case c = search needs
-
-eq-ignore-ascii-case-requires : tie.Need-eq-ignore-ascii-case-requires
-eq-ignore-ascii-case-requires c κs = search needs
+is-signed-off-by-requires : tie.Need-is-signed-off-by-requires
+is-signed-off-by-requires c κs = search needs
 
 enum-told-3 : tie.Need-enum-told-3
 enum-told-3 c = search needs
 
-slice-aggregate-eq-ignore-ascii-case-2 : tie.Need-slice-aggregate-eq-ignore-ascii-case-2
-slice-aggregate-eq-ignore-ascii-case-2 c = search needs
-
-eq-ignore-ascii-case-requires-2 : tie.Need-eq-ignore-ascii-case-requires-2
-eq-ignore-ascii-case-requires-2 c κs = search needs
+is-co-authored-by-requires : tie.Need-is-co-authored-by-requires
+is-co-authored-by-requires c κs = search needs
 
 enum-told-4 : tie.Need-enum-told-4
 enum-told-4 c = search needs
 
-slice-aggregate-eq-ignore-ascii-case-3 : tie.Need-slice-aggregate-eq-ignore-ascii-case-3
-slice-aggregate-eq-ignore-ascii-case-3 c = search needs
-
-eq-ignore-ascii-case-requires-3 : tie.Need-eq-ignore-ascii-case-requires-3
-eq-ignore-ascii-case-requires-3 c κs = search needs
+is-assisted-by-requires : tie.Need-is-assisted-by-requires
+is-assisted-by-requires c κs = search needs
 
 enum-told-5 : tie.Need-enum-told-5
 enum-told-5 c = search needs
 
-slice-aggregate-eq-ignore-ascii-case-4 : tie.Need-slice-aggregate-eq-ignore-ascii-case-4
-slice-aggregate-eq-ignore-ascii-case-4 c = search needs
-
-eq-ignore-ascii-case-requires-4 : tie.Need-eq-ignore-ascii-case-requires-4
-eq-ignore-ascii-case-requires-4 c κs = search needs
+is-acked-by-requires : tie.Need-is-acked-by-requires
+is-acked-by-requires c κs = search needs
 
 enum-told-6 : tie.Need-enum-told-6
 enum-told-6 c = search needs
 
-slice-aggregate-eq-ignore-ascii-case-5 : tie.Need-slice-aggregate-eq-ignore-ascii-case-5
-slice-aggregate-eq-ignore-ascii-case-5 c = search needs
-
-eq-ignore-ascii-case-requires-5 : tie.Need-eq-ignore-ascii-case-requires-5
-eq-ignore-ascii-case-requires-5 c κs = search needs
+is-reviewed-by-requires : tie.Need-is-reviewed-by-requires
+is-reviewed-by-requires c κs = search needs
 
 enum-told-7 : tie.Need-enum-told-7
 enum-told-7 c = search needs
 
-slice-aggregate-eq-ignore-ascii-case-6 : tie.Need-slice-aggregate-eq-ignore-ascii-case-6
-slice-aggregate-eq-ignore-ascii-case-6 c = search needs
-
-eq-ignore-ascii-case-requires-6 : tie.Need-eq-ignore-ascii-case-requires-6
-eq-ignore-ascii-case-requires-6 c κs = search needs
+is-tested-by-requires : tie.Need-is-tested-by-requires
+is-tested-by-requires c κs = search needs
 
 enum-told-8 : tie.Need-enum-told-8
 enum-told-8 c = search needs
@@ -76,22 +58,22 @@ returns : tie.Need-returns
 returns c = search needs
 
 returns-2 : tie.Need-returns-2
-returns-2 c = rw (c .before .before .enum-told2 .given .1) (c .eq-ignore-ascii-case .ensures)
+returns-2 c = rw (c .before .enum-told2 .given .1) (c .is-signed-off-by .ensures)
 
 returns-3 : tie.Need-returns-3
-returns-3 c = rw (c .before .before .enum-told3 .given .1) (c .eq-ignore-ascii-case2 .ensures)
+returns-3 c = rw (c .before .enum-told3 .given .1) (c .is-co-authored-by .ensures)
 
 returns-4 : tie.Need-returns-4
-returns-4 c = rw (c .before .before .enum-told4 .given .1) (c .eq-ignore-ascii-case3 .ensures)
+returns-4 c = rw (c .before .enum-told4 .given .1) (c .is-assisted-by .ensures)
 
 returns-5 : tie.Need-returns-5
-returns-5 c = rw (c .before .before .enum-told5 .given .1) (c .eq-ignore-ascii-case4 .ensures)
+returns-5 c = rw (c .before .enum-told5 .given .1) (c .is-acked-by .ensures)
 
 returns-6 : tie.Need-returns-6
-returns-6 c = rw (c .before .before .enum-told6 .given .1) (c .eq-ignore-ascii-case5 .ensures)
+returns-6 c = rw (c .before .enum-told6 .given .1) (c .is-reviewed-by .ensures)
 
 returns-7 : tie.Need-returns-7
-returns-7 c = rw (c .before .before .enum-told7 .given .1) (c .eq-ignore-ascii-case6 .ensures)
+returns-7 c = rw (c .before .enum-told7 .given .1) (c .is-tested-by .ensures)
 
 returns-8 : tie.Need-returns-8
 returns-8 c = rw (c .before .enum-told8 .given .1) (c .is-attribution .ensures)
@@ -105,23 +87,17 @@ is-of-spec =
     (tie.spec
     enum-told
     enum-told-2
-    slice-aggregate-eq-ignore-ascii-case
-    eq-ignore-ascii-case-requires
+    is-signed-off-by-requires
     enum-told-3
-    slice-aggregate-eq-ignore-ascii-case-2
-    eq-ignore-ascii-case-requires-2
+    is-co-authored-by-requires
     enum-told-4
-    slice-aggregate-eq-ignore-ascii-case-3
-    eq-ignore-ascii-case-requires-3
+    is-assisted-by-requires
     enum-told-5
-    slice-aggregate-eq-ignore-ascii-case-4
-    eq-ignore-ascii-case-requires-4
+    is-acked-by-requires
     enum-told-6
-    slice-aggregate-eq-ignore-ascii-case-5
-    eq-ignore-ascii-case-requires-5
+    is-reviewed-by-requires
     enum-told-7
-    slice-aggregate-eq-ignore-ascii-case-6
-    eq-ignore-ascii-case-requires-6
+    is-tested-by-requires
     enum-told-8
     is-attribution-requires
     enum-told-9
