@@ -9,7 +9,6 @@ use native.Mathlib.Omega.{arith}
 use lib.Dec.{eqb}
 use lib.ListN.{length, take, drop, getD, length-drop}
 use lib.Seq.{drop-cons, drop-drop}
-use borrow.Author.Tests.{eq-eqb, ne-eqb}
 use Rattle.rules.specs.Bytes.{LF, within}
 use Rattle.rules.specs.Lists.{if_then_else_, run}
 use Rattle.rules.proofs.Lists.{or-none}
@@ -19,7 +18,7 @@ use Rattle.summary.specs.Followed.{anyFollowed, followed, untilFollowed}
 module _ (low high : ℕ) where
   -- ---- a whole run without one is passed: its last byte is only looked at as the next one
 
-  run-front : (n : ℕ) (s : List ℕ) → n < length s → anyFollowed low high (take (suc n) s) ≡ false →
+  pub run-front : (n : ℕ) (s : List ℕ) → n < length s → anyFollowed low high (take (suc n) s) ≡ false →
       untilFollowed low high s ≡ n + untilFollowed low high (drop n s)
   run-front zero s h e = sym (zero-add (untilFollowed low high s))
   run-front (suc n) [] h e = absurd (omega arith)
@@ -67,7 +66,7 @@ module _ (low high : ℕ) where
       let (none, all) = short (drop i s) (omega (arith, length-drop i s)) in
       (none, omega (arith, all, length-drop i s))
 
-  -- ---- all bytes stand before the first one exactly where there is none
+  -- ---- all bytes stand before the first one where there is none
 
   until-found : (s : List ℕ) → anyFollowed low high s ≡ true → untilFollowed low high s < length s
   until-found [] e = absurd (false≢true e)
@@ -86,13 +85,6 @@ module _ (low high : ℕ) where
   until-none (c ∷ d ∷ s) e =
       let (none, behind) = or-none (followed low high c d) (anyFollowed low high (d ∷ s)) e in
       rw none (ap suc (until-none (d ∷ s) behind))
-
-  pub until-all : (s : List ℕ) → eqb (untilFollowed low high s) (length s) ≡ not (anyFollowed low high s)
-  until-all s = by (anyFollowed low high s) refl
-    where
-      by : (b : Bool) → anyFollowed low high s ≡ b → eqb (untilFollowed low high s) (length s) ≡ not b
-      by true e = ne-eqb _ _ (λ (q : untilFollowed low high s ≡ length s). omega (arith, until-found s e))
-      by false e = eq-eqb _ _ (until-none s e)
 
   pub until-fits : (s : List ℕ) → untilFollowed low high s ≤ length s
   until-fits s = by (anyFollowed low high s) refl

@@ -30,7 +30,7 @@ use Rattle.summary.proofs.Pieces.{some-piece}
 abbrev front : List ℕ → List ℕ
 front s = take (untilFollowed LF LF s) s
 
-lf-alone : (c : ℕ) → within LF LF c ≡ eqb c LF
+pub lf-alone : (c : ℕ) → within LF LF c ≡ eqb c LF
 lf-alone c = by (eqb c LF) refl
   where
     by : (b : Bool) → eqb c LF ≡ b → within LF LF c ≡ b

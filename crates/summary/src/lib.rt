@@ -5,7 +5,7 @@ ghost use mathlib.Core.List.{_++_};
 ghost use mathlib.Core.Path.{_≡_};
 ghost use Prim.Native.Nat.{_+_, _≤_};
 ghost use lib.Dec.{ltb};
-ghost use lib.ListN.{length, drop};
+ghost use lib.ListN.{length, take, drop};
 ghost use Rattle.rules.specs.Record.{fitted, writtenFound};
 ghost use Rattle.rules.specs.Summary.{added, dropBlanks, folded, pieces, spaced, many};
 ghost use Rattle.rules.specs.White.{trim};
@@ -85,15 +85,22 @@ fn find_followed(s: &[u8], at: usize, low: u8, high: u8) -> usize
 
 // ---- a text without blanks before its LFs
 
-// Whether no blank stands directly before an LF: no byte up to the space does. The first LF is at `first`, or there is none.
-fn is_plain(text: &[u8], first: usize) -> bool
-    requires { ⌜ (length (now text) ≤ first → anyFollowed 0 32 (now text) ≡ false) ⌝ }
-    ensures { λ r. ⌜ r ≡ not (anyFollowed 0 32 (now (text .entry))) ⌝ }
+// Whether no blank stands directly before an LF among the first `kept` bytes of a message: no byte up to the space does. The first LF is at `first`,
+// or there is none, and from there on the first such byte is at `blank`.
+fn is_plain(message: &[u8], kept: usize, first: usize, blank: usize) -> bool
+    requires { ⌜ kept ≤ length (now message) ⌝ }
+    requires { ⌜ (first ≡ untilLF (now message)) × (blank ≡ first + untilFollowed 0 32 (drop first (now message))) ⌝ }
+    ensures { λ r. ⌜ r ≡ not (anyFollowed 0 32 (take kept (now (message .entry)))) ⌝ }
 {
-    if text.len() <= first {
+    if kept <= first {
         return true;
     }
-    find_followed(text, 0, 0, b' ') == text.len()
+    if first > 0 {
+        if message[first - 1] <= b' ' {
+            return false;
+        }
+    }
+    kept - 1 <= blank
 }
 
 // An LF as a space, every other byte as it is.
@@ -232,17 +239,32 @@ pub fn first_lf(message: &[u8]) -> usize
     find_lf(message, 0)
 }
 
+// Where an LF directly follows an LF, from `blank` on; the end where none does. At `blank` stands a byte up to the space that an LF follows, most often
+// an LF, or there is none.
+fn find_stop(message: &[u8], blank: usize) -> usize
+    requires { ⌜ (blank ≤ length (now message)) × (untilFollowed 0 32 (drop blank (now message)) ≡ 0) ⌝ }
+    ensures { λ r. ⌜ r ≡ blank + untilFollowed 10 10 (drop blank (now (message .entry))) ⌝ }
+{
+    if blank < message.len() {
+        if message[blank] == b'\n' {
+            return blank;
+        }
+    }
+    find_followed(message, blank, b'\n', b'\n')
+}
+
 // The summary of a message that is trimmed and has its first LF at `first`: written to the front of `out`, where there is room. What is
-// folded ends where an LF directly follows an LF, and is trimmed there.
+// folded ends where an LF directly follows an LF, and is trimmed there. One search tells both whether blanks go and where that may be.
 pub fn summarise(message: &[u8], first: usize, out: &mut [u8]) -> ValueFound
     requires { ⌜ (trim (now message) ≡ now message) × (first ≡ untilLF (now message)) ⌝ }
     ensures { λ r. ⌜ r ≡ writtenFound (spaced (pieces (now (message .entry)))) (length (now (out .entry))) ⌝ }
     ensures { λ _. ⌜ now (out .exit) ≡ fitted (spaced (pieces (now (message .entry)))) (now (out .entry)) ⌝ }
 {
-    let end = find_followed(message, first, b'\n', b'\n');
+    let blank = find_followed(message, first, 0, b' ');
+    let end = find_stop(message, blank);
     let kept = trim_end(&message[..end]);
     let text = &message[..kept];
-    if is_plain(text, first) {
+    if is_plain(message, kept, first, blank) {
         return write_plain(text, out);
     }
     write_folded(text, out)

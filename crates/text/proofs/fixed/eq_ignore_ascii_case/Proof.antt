@@ -1,6 +1,6 @@
 -- `text::fixed::eq_ignore_ascii_case` meets its contract. The invariant: the two are the same, ASCII case aside, just where they
 -- were alike so far and what is left of them is the same. Assumes nothing.
-use mathlib.Core.Bool.{Bool, true, false, and-assoc, and-true, _&&_}
+use mathlib.Core.Bool.{Bool, true, and-assoc, and-true, _&&_}
 use mathlib.Core.List.{List}
 use mathlib.Core.Path.{_≡_, sym, _∙_}
 use Prim.Native.Nat.{ℕ, _+_, _-_, _≤_, _<_}
