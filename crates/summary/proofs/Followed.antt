@@ -1,7 +1,7 @@
 -- Bytes that an LF directly follows, searched by runs and byte by byte. Assumes nothing.
-use mathlib.Core.Bool.{Bool, true, false, false≢true, and-false, not, _&&_, _||_}
+use mathlib.Core.Bool.{Bool, true, false, and-false, not, _&&_, _||_}
 use mathlib.Core.List.{List, [], _∷_}
-use mathlib.Core.Path.{_≡_, refl, sym, ap, _∙_}
+use mathlib.Core.Path.{_≡_, refl, sym, _∙_}
 use Prim.Native.Nat.{ℕ, zero, suc, _+_, _-_, _≤_, _<_}
 use native.Mathlib.Nat.{zero-add}
 use native.Mathlib.Numerals.{add-one}
@@ -9,11 +9,13 @@ use native.Mathlib.Omega.{arith}
 use lib.Dec.{eqb}
 use lib.ListN.{length, take, drop, getD, length-drop}
 use lib.Seq.{drop-cons, drop-drop}
+use mir.Val.{boolByte}
 use Rattle.rules.specs.Bytes.{LF, within}
 use Rattle.rules.specs.Lists.{if_then_else_, run}
 use Rattle.rules.proofs.Lists.{or-none}
+use Rattle.rules.proofs.Parts.{rest}
 use Rattle.find.specs.Find.{isLF, untilLF}
-use Rattle.summary.specs.Followed.{anyFollowed, followed, untilFollowed}
+use Rattle.summary.specs.Followed.{anyFollowed, countFollowed, followed, untilFollowed}
 
 module _ (low high : ℕ) where
   -- ---- a whole run without one is passed: its last byte is only looked at as the next one
@@ -33,6 +35,12 @@ module _ (low high : ℕ) where
       let front = run-front n (drop i s) (omega (arith, length-drop i s)) e in
       omega (arith, rw (drop-drop n i s) at front)
 
+  -- what is passed in the rest from `i` on is passed in the whole
+  pub part-passed : (s : List ℕ) (i : ℕ) {r : ℕ} → i ≤ length s →
+      let t = take (length s - i) (drop i s) in (r ≤ length t) × (r + untilFollowed low high (drop r t) ≡ untilFollowed low high t) →
+      (i + r ≤ length s) × ((i + r) + untilFollowed low high (drop (i + r) s) ≡ i + untilFollowed low high (drop i s))
+  part-passed s i {r} h e = omega (arith, rw (rest s i, drop-drop r i s) at e, length-drop i s)
+
   -- ---- byte by byte: a byte that is there, and the one behind it
 
   two-ahead : (s : List ℕ) (i : ℕ) → i + 1 < length s → drop i s ≡ getD s i 0 ∷ getD s (i + 1) 0 ∷ drop (i + 1 + 1) s
@@ -45,6 +53,15 @@ module _ (low high : ℕ) where
       anyFollowed low high (drop i s) ≡ (followed low high (getD s i 0) (getD s (i + 1) 0) || anyFollowed low high (drop (i + 1) s))
   any-next s i h = rw (two-ahead s i h, next-ahead s i h)
 
+  pub count-next : (s : List ℕ) (i : ℕ) {b : Bool} → i + 1 < length s → b ≡ followed low high (getD s i 0) (getD s (i + 1) 0) →
+      (countFollowed low high (drop i s) ≡ boolByte b + countFollowed low high (drop (i + 1) s)) × (boolByte b ≤ 1)
+  count-next s i {b} h e = rw (two-ahead s i h, next-ahead s i h, ← e) (by b)
+    where
+      by : (b : Bool) → let n = countFollowed low high (getD s (i + 1) 0 ∷ drop (i + 1 + 1) s) in
+          ((if b then 1 else 0) + n ≡ boolByte b + n) × (boolByte b ≤ 1)
+      by true = (refl, omega arith)
+      by false = (refl, omega arith)
+
   pub here : (s : List ℕ) (i : ℕ) → i + 1 < length s → followed low high (getD s i 0) (getD s (i + 1) 0) ≡ true →
       untilFollowed low high (drop i s) ≡ 0
   here s i h e = rw (two-ahead s i h, e)
@@ -55,43 +72,43 @@ module _ (low high : ℕ) where
 
   -- ---- behind the last byte but one there is none
 
-  short : (s : List ℕ) → length s ≤ 1 → (anyFollowed low high s ≡ false) × (untilFollowed low high s ≡ length s)
-  short [] h = (refl, refl)
-  short (c ∷ []) h = (refl, refl)
+  short : (s : List ℕ) → length s ≤ 1 →
+      (anyFollowed low high s ≡ false) × (untilFollowed low high s ≡ length s) × (countFollowed low high s ≡ 0)
+  short [] h = (refl, refl, refl)
+  short (c ∷ []) h = (refl, refl, refl)
   short (c ∷ d ∷ s) h = absurd (omega arith)
 
   pub at-end : (s : List ℕ) (i : ℕ) → length s ≤ i + 1 → i ≤ length s →
       (anyFollowed low high (drop i s) ≡ false) × (i + untilFollowed low high (drop i s) ≡ length s)
   at-end s i h k =
-      let (none, all) = short (drop i s) (omega (arith, length-drop i s)) in
+      let (none, all, uncounted) = short (drop i s) (omega (arith, length-drop i s)) in
       (none, omega (arith, all, length-drop i s))
 
-  -- ---- all bytes stand before the first one where there is none
+  pub count-end : (s : List ℕ) (i : ℕ) → length s ≤ i + 1 → countFollowed low high (drop i s) ≡ 0
+  count-end s i h = short (drop i s) (omega (arith, length-drop i s)) .2
 
-  until-found : (s : List ℕ) → anyFollowed low high s ≡ true → untilFollowed low high s < length s
-  until-found [] e = absurd (false≢true e)
-  until-found (c ∷ []) e = absurd (false≢true e)
-  until-found (c ∷ d ∷ s) e = by (followed low high c d) e (until-found (d ∷ s))
+  -- ---- none is there where none is counted
+
+  pub none-counted : (s : List ℕ) → countFollowed low high s ≡ 0 → anyFollowed low high s ≡ false
+  none-counted [] e = refl
+  none-counted (c ∷ []) e = refl
+  none-counted (c ∷ d ∷ s) e = by (followed low high c d) e (none-counted (d ∷ s))
     where
-      by : (b : Bool) → (b || anyFollowed low high (d ∷ s)) ≡ true →
-          (anyFollowed low high (d ∷ s) ≡ true → untilFollowed low high (d ∷ s) < suc (length s)) →
-          (if b then 0 else suc (untilFollowed low high (d ∷ s))) < suc (suc (length s))
-      by true f more = omega arith
-      by false f more = omega (arith, more f)
+      by : (b : Bool) → (if b then 1 else 0) + countFollowed low high (d ∷ s) ≡ 0 →
+          (countFollowed low high (d ∷ s) ≡ 0 → anyFollowed low high (d ∷ s) ≡ false) → (b || anyFollowed low high (d ∷ s)) ≡ false
+      by true z more = absurd (omega arith)
+      by false z more = more (omega arith)
 
-  until-none : (s : List ℕ) → anyFollowed low high s ≡ false → untilFollowed low high s ≡ length s
-  until-none [] e = refl
-  until-none (c ∷ []) e = refl
-  until-none (c ∷ d ∷ s) e =
-      let (none, behind) = or-none (followed low high c d) (anyFollowed low high (d ∷ s)) e in
-      rw none (ap suc (until-none (d ∷ s) behind))
+  -- ---- the search ends at the end at the latest
 
   pub until-fits : (s : List ℕ) → untilFollowed low high s ≤ length s
-  until-fits s = by (anyFollowed low high s) refl
+  until-fits [] = omega arith
+  until-fits (c ∷ []) = omega arith
+  until-fits (c ∷ d ∷ s) = by (followed low high c d) (until-fits (d ∷ s))
     where
-      by : (b : Bool) → anyFollowed low high s ≡ b → untilFollowed low high s ≤ length s
-      by true e = omega (arith, until-found s e)
-      by false e = omega (arith, until-none s e)
+      by : (b : Bool) → untilFollowed low high (d ∷ s) ≤ suc (length s) → (if b then 0 else suc (untilFollowed low high (d ∷ s))) ≤ suc (suc (length s))
+      by true r = omega arith
+      by false r = omega arith
 
   pub none-behind : (c : ℕ) (s : List ℕ) → anyFollowed low high (c ∷ s) ≡ false → anyFollowed low high s ≡ false
   none-behind c [] e = refl
