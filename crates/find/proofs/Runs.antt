@@ -89,6 +89,21 @@ until-fits s i h = omega (arith, within (drop i s), length-drop i s)
         by true q r = rw q (omega arith)
         by false q r = rw q (omega arith)
 
+-- where the bytes from `j` on have no LF, a search from a later place on ends at the end
+pub past-end : (s : List ℕ) (j i : ℕ) → j ≤ i → i ≤ length s → any isLF (drop j s) ≡ false → i + untilLF (drop i s) ≡ length s
+past-end s j i h k e =
+    let later : j + (i - j) ≡ i = omega arith in
+    omega (arith, all (drop i s) (rw (drop-drop (i - j) j s, later) at (behind (i - j) (drop j s) e)), length-drop i s)
+  where
+    behind : (m : ℕ) (t : List ℕ) → any isLF t ≡ false → any isLF (drop m t) ≡ false
+    behind zero t e = e
+    behind (suc m) [] e = refl
+    behind (suc m) (x ∷ t) e = behind m t (or-none (isLF x) (any isLF t) e .1)
+
+    all : (t : List ℕ) → any isLF t ≡ false → untilLF t ≡ length t
+    all [] e = refl
+    all (x ∷ t) e = let n = or-none (isLF x) (any isLF t) e in rw (n .0) (ap suc (all t (n .1)))
+
 -- an LF in the run at `i` is the next one
 pub in-run : (k : ℕ) (s : List ℕ) (i : ℕ) → any isLF (take k (drop i s)) ≡ true → untilLF (take k (drop i s)) ≡ untilLF (drop i s)
 in-run k s i e = among (drop i s) k e

@@ -1,6 +1,7 @@
 // The search for an LF, forward and backward. An LF among the next two bytes is told at once. Then whole runs without one are passed over: a
 // run is read to its end, LF or not, so that the compiler reads all of it at once. Where the first 128 bytes have none, the blocks of 128 behind
-// them in which none is counted are passed over too, and the runs go on from there. Where in a run the LF stands is told by its two words.
+// them in which none is counted are passed over too, and the runs go on from there. Where in a run the LF stands is told by its two words. Less than
+// a run is left at the end: the last 16 bytes are read as one run once more, and tell whether it has an LF.
 pub mod count;
 
 ghost use mathlib.Core.Bool.{true, not};
@@ -123,6 +124,11 @@ pub fn find_lf(s: &[u8], at: usize) -> usize
         i += RUN;
         if i - at == BLOCK {
             i += past_blocks(&s[i..]);
+        }
+    }
+    if len - at >= RUN {
+        if !has_lf(&s[len - RUN..]) {
+            return len;
         }
     }
     i + until_lf_of_part(&s[i..])

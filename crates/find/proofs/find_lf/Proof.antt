@@ -4,11 +4,12 @@ use mathlib.Core.Path.{_≡_, sym, _∙_}
 use Prim.Native.Nat.{_+_, _-_, _≤_}
 use native.Mathlib.Omega.{arith}
 use borrow.Author.Needs.{needs}
+use borrow.Author.Tests.{not-true}
 use lib.ListN.{length, take, drop}
 use Rattle.rules.proofs.Parts.{rest}
 use Rattle.rules.specs.Lists.{any}
 use Rattle.find.specs.Find.{isLF, untilLF}
-use Rattle.find.proofs.Runs.{ends, goes, in-run, past-part, past-run, until-fits}
+use Rattle.find.proofs.Runs.{ends, goes, in-run, past-end, past-part, past-run, until-fits}
 use Rattle.find.proofs.find_lf.Statement.{statement}
 use Rattle.find.proofs.find_lf.Tie as tie
 
@@ -152,6 +153,31 @@ loop-less-2 c = search needs
 loop-again-2 : tie.Need-loop-again-2 Inv-loop μ-loop
 loop-again-2 c = let p = past-the-run (c .before) in search needs
 
+sub-if6 : tie.Need-sub-if6 Inv-loop μ-loop
+sub-if6 c = search needs
+
+sub-has-lf-2 : tie.Need-sub-has-lf-2 Inv-loop μ-loop
+sub-has-lf-2 c = search needs
+
+sub-has-lf-3 : tie.Need-sub-has-lf-3 Inv-loop μ-loop
+sub-has-lf-3 c = search needs
+
+part-has-lf-start-2 : tie.Need-part-has-lf-start-2 Inv-loop μ-loop
+part-has-lf-start-2 c = search needs
+
+part-has-lf-end-2 : tie.Need-part-has-lf-end-2 Inv-loop μ-loop
+part-has-lf-end-2 c = search needs
+
+has-lf-requires-2 : tie.Need-has-lf-requires-2 Inv-loop μ-loop
+has-lf-requires-2 c κs = search needs
+
+-- the last run has none
+returns-4 : tie.Need-returns-4 Inv-loop μ-loop
+returns-4 c =
+    let r = c .before in let l = r .before .before .before .before in let s = l .before .before .before .args .s .now in
+    let none : any isLF (drop (length s - 16) s) ≡ false = rw (rest s (length s - 16)) at (sym (r .has-lf2 .ensures) ∙ not-true (r .has-lf2 .result) (c .if7 .taken)) in
+    omega (arith, past-end s (length s - 16) (l .loop .i) (search needs) (search needs) none, l .loop .inv .3)
+
 sub-until-lf-of-part-2 : tie.Need-sub-until-lf-of-part-2 Inv-loop μ-loop
 sub-until-lf-of-part-2 c = search needs
 
@@ -165,19 +191,19 @@ until-lf-of-part-requires-2 : tie.Need-until-lf-of-part-requires-2 Inv-loop μ-l
 until-lf-of-part-requires-2 c κs = search needs
 
 -- what is left has it, or none is there
-in-the-rest : (c : tie.After-until-lf-of-part2 Inv-loop μ-loop) → let l = c .before .before .before in let s = l .before .before .before .args .s .now in
+in-the-rest : (c : tie.After-until-lf-of-part2 Inv-loop μ-loop) → let l = c .before .before .before .before in let s = l .before .before .before .args .s .now in
     let at = l .before .before .before .args .at in
     (l .loop .i + c .until-lf-of-part2 .result ≡ at + untilLF (drop at s)) × (at + untilLF (drop at s) ≤ length s)
 in-the-rest c =
-    let l = c .before .before .before in let s = l .before .before .before .args .s .now in
+    let l = c .before .before .before .before in let s = l .before .before .before .args .s .now in
     let there : c .until-lf-of-part2 .result ≡ untilLF (drop (l .loop .i) s) = rw (rest s (l .loop .i)) at (c .until-lf-of-part2 .ensures) in
     (omega (arith, there, l .loop .inv .3), until-fits s (l .before .before .before .args .at) (search needs))
 
 add-result-3 : tie.Need-add-result-3 Inv-loop μ-loop
 add-result-3 c = let k = in-the-rest c in search needs
 
-returns-4 : tie.Need-returns-4 Inv-loop μ-loop
-returns-4 c = in-the-rest c .0
+returns-5 : tie.Need-returns-5 Inv-loop μ-loop
+returns-5 c = in-the-rest c .0
 
 pub find-lf-spec : {M : Type 1} → statement M
 find-lf-spec =
@@ -217,9 +243,16 @@ find-lf-spec =
     loop-again
     loop-less-2
     loop-again-2
+    sub-if6
+    sub-has-lf-2
+    sub-has-lf-3
+    part-has-lf-start-2
+    part-has-lf-end-2
+    has-lf-requires-2
+    returns-4
     sub-until-lf-of-part-2
     part-until-lf-of-part-start-2
     part-until-lf-of-part-end-2
     until-lf-of-part-requires-2
     add-result-3
-    returns-4)
+    returns-5)
