@@ -4,8 +4,11 @@ use mathlib.Core.List.{List, [], _∷_}
 use mathlib.Core.Path.{_≡_, refl, sym, ap, _∙_}
 use Prim.Native.Nat.{ℕ, _+_, _-_, _≤_, _<_}
 use native.Mathlib.Omega.{arith}
+use borrow.Author.Tests.{lt-leb, ne-eqb}
 use lib.Dec.{T}
-use lib.ListN.{length, take, drop, length-append, length-drop}
+use lib.ListN.{length, take, drop, getD, length-append, length-drop}
+use lib.Seq.{drop-cons}
+use Rattle.rules.specs.Bytes.{tokenByte}
 use Rattle.rules.specs.Lines.{Line, folds, lines}
 use Rattle.rules.specs.Lists.{if_then_else_, join, run}
 use Rattle.rules.specs.Trailer.{named, trailerLine, tokenIn, gapIn}
@@ -52,6 +55,15 @@ at-start-by (c ∷ s) n e =
 
 pub no-trailer-there : (s : List ℕ) → parsed s ≡ TrailerLine.NoTrailer → atStart (lines s) ≡ TrailerAtStart.NoTrailer
 no-trailer-there s p = at-start-by s (firstLength (lines s)) refl ∙ rw p
+
+-- a line whose first byte is none of a token begins none: a byte up to the space is none
+low-no-token : (c : ℕ) → c ≤ 32 → tokenByte c ≡ false
+unfolding tokenByte
+low-no-token c h = rw (lt-leb 65 c (omega arith), lt-leb 97 c (omega arith), lt-leb 48 c (omega arith), ne-eqb c 45 (λ e. omega arith))
+
+pub low-there : (s : List ℕ) (i : ℕ) → i < length s → getD s i 0 ≤ 32 → atStart (lines (take (length s - i) (drop i s))) ≡ TrailerAtStart.NoTrailer
+unfolding parsed trailerLine named
+low-there s i h k = rw (rest s i) (no-trailer-there (drop i s) (rw (drop-cons s i 0 h, low-no-token (getD s i 0) k)))
 
 pub trailer-there : (s : List ℕ) {token value : ℕ} (n : ℕ) → parsed s ≡ TrailerLine.At token value → n ≡ firstLength (lines s)
     → atStart (lines s) ≡ TrailerAtStart.Trailer token value n (n + length (join (run folds (lines (take (length s - n) (drop n s))))))

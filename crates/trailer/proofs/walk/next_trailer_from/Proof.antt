@@ -1,5 +1,6 @@
 -- `trailer::walk::next_trailer_from` meets its contract. The invariant: the first trailer from `start` on is the first from `at` on.
 -- Assumes nothing.
+use mathlib.Core.Logic.{⊎-elim}
 use mathlib.Core.Path.{_≡_, sym, _∙_}
 use Prim.Native.Nat.{_+_, _-_, _≤_, _<_}
 use native.Mathlib.Omega.{arith}
@@ -11,6 +12,7 @@ use Rattle.trailer.specs.Line.{atStart}
 use Rattle.trailer.specs.Walk.{nextOf}
 use Rattle.trailer.specs.declared.line.TrailerAtStart.{TrailerAtStart}
 use Rattle.text.proofs.ByLines.{line-ahead}
+use Rattle.trailer.proofs.AtStart.{low-there}
 use Rattle.trailer.proofs.Steps.{next-skips, next-found, found-within, next-ends}
 use Rattle.trailer.proofs.walk.next_trailer_from.Statement.{statement}
 use Rattle.trailer.proofs.walk.next_trailer_from.Tie as tie
@@ -24,6 +26,9 @@ abbrev μ-loop : tie.MeasureT-loop
 
 loop-holds : tie.Need-loop-holds Inv-loop μ-loop
 loop-holds c = search needs
+
+shared-slice-read-if1 : tie.Need-shared-slice-read-if1 Inv-loop μ-loop
+shared-slice-read-if1 c = search needs
 
 sub-trailer-at-start : tie.Need-sub-trailer-at-start Inv-loop μ-loop
 sub-trailer-at-start c = search needs
@@ -42,7 +47,7 @@ enum-known-token-end c = search needs
 
 -- the loop's head, from where its line is read
 abbrev head : tie.After-trailer-at-start Inv-loop μ-loop → tie.At-loop Inv-loop μ-loop
-head r = r .before .before .before
+head r = r .before .before .before .before .before
 
 -- the trailer that was found, and its places
 found : (c : tie.After-known-told Inv-loop μ-loop) → let l = head (c .before .before .before) in
@@ -57,17 +62,17 @@ places c =
     let l = head (c .before .before .before) in
     found-within (l .before .before .args .body .now) (l .loop .start) (omega arith) (found c)
 
-add-t14 : tie.Need-add-t14 Inv-loop μ-loop
-add-t14 c = omega (arith, places c)
-
-add-t15 : tie.Need-add-t15 Inv-loop μ-loop
-add-t15 c = omega (arith, places c)
-
-add-t16 : tie.Need-add-t16 Inv-loop μ-loop
-add-t16 c = omega (arith, places c)
-
 add-t17 : tie.Need-add-t17 Inv-loop μ-loop
 add-t17 c = omega (arith, places c)
+
+add-t18 : tie.Need-add-t18 Inv-loop μ-loop
+add-t18 c = omega (arith, places c)
+
+add-t19 : tie.Need-add-t19 Inv-loop μ-loop
+add-t19 c = omega (arith, places c)
+
+add-t20 : tie.Need-add-t20 Inv-loop μ-loop
+add-t20 c = omega (arith, places c)
 
 returns : tie.Need-returns Inv-loop μ-loop
 returns c =
@@ -89,11 +94,18 @@ part-line-len-end c = search needs
 line-len-requires : tie.Need-line-len-requires Inv-loop μ-loop
 line-len-requires c κs = search needs
 
+-- no trailer begins at the line that is skipped, by its first byte or as it was read
+none-there : (c : tie.After-line-len Inv-loop μ-loop) → let l = c .before .before .before .before .before in
+    atStart (lines (take (length (l .before .before .args .body .now) - l .loop .start) (drop (l .loop .start) (l .before .before .args .body .now)))) ≡ TrailerAtStart.NoTrailer
+none-there c =
+    let l = c .before .before .before .before .before in
+    ⊎-elim (λ w. sym (w .2 .ensures) ∙ w .4 .given .1) (λ w. low-there (l .before .before .args .body .now) (l .loop .start) (omega arith) (w .left)) (c .before .before .if1 .came)
+
 -- a line is ahead
-ahead : (c : tie.After-line-len Inv-loop μ-loop) → let none = c .before .before in let l = head (none .before .before) in
+ahead : (c : tie.After-line-len Inv-loop μ-loop) → let l = c .before .before .before .before .before in
     (0 < c .line-len .result) × (l .loop .start + c .line-len .result ≤ length (l .before .before .args .body .now))
 ahead c =
-    let none = c .before .before in let l = head (none .before .before) in
+    let l = c .before .before .before .before .before in
     line-ahead (l .before .before .args .body .now) (l .loop .start) (c .line-len .result) (omega arith) (c .line-len .ensures)
 
 add-start : tie.Need-add-start Inv-loop μ-loop
@@ -104,11 +116,9 @@ loop-less c = omega (arith, ahead c)
 
 loop-again : tie.Need-loop-again Inv-loop μ-loop
 loop-again c =
-    let none = c .before .before in let r = none .before .before in let l = head r in
-    let s = l .before .before .args .body .now in
-    let told = sym (r .trailer-at-start .ensures) ∙ none .enum-told .given .1 in (
+    let l = c .before .before .before .before .before in (
       ahead c .1,
-      l .loop .inv .1 ∙ next-skips s (l .loop .start) (omega arith) _ told (c .line-len .ensures),
+      l .loop .inv .1 ∙ next-skips (l .before .before .args .body .now) (l .loop .start) (omega arith) _ (none-there c) (c .line-len .ensures),
     )
 
 returns-2 : tie.Need-returns-2 Inv-loop μ-loop
@@ -121,15 +131,16 @@ next-trailer-from-spec =
     Inv-loop
     μ-loop
     loop-holds
+    shared-slice-read-if1
     sub-trailer-at-start
     part-trailer-at-start-start
     part-trailer-at-start-end
     trailer-at-start-requires
     enum-known-token-end
-    add-t14
-    add-t15
-    add-t16
     add-t17
+    add-t18
+    add-t19
+    add-t20
     returns
     enum-told
     sub-line-len
