@@ -1,47 +1,25 @@
 // The calls that list all trailers at once: document 02, K1.
 ghost use mathlib.Core.Path.{_≡_};
-ghost use Prim.Native.Nat.{_/_, _≤_};
+ghost use Prim.Native.Nat.{_/_};
 ghost use lib.ListN.{length};
 ghost use Rattle.flat.specs.Flat.{flatTable, messageTable, width};
 ghost use Rattle.foot.specs.Foot.{footAnswer};
-ghost use Rattle.listing.specs.Answers.{listingSays};
 ghost use Rattle.planning.specs.Scopes.{messageBuffer, messageListing, scopeAnswer, scopeBuffer};
 ghost use Rattle.planning.specs.declared.Scope.{Scope};
-ghost use Rattle.numbers.specs.Numbers.{bufferOf, codeOf, resultLength, resultOf};
+ghost use Rattle.numbers.specs.Numbers.{bufferOf, codeOf, resultOf};
 ghost use Rattle.exports.specs.ByKind.{cursor};
 ghost use Rattle.exports.specs.ByReading.{askedIn, isWhole, leftAsked, readingOf};
 use crate::SHORT_RESULT;
 use crate::readings::NO_READING;
 use crate::readings::ReadingAsked;
 use crate::readings::reading_of;
+use answers::lists::put_listing;
 use flat::list_foot;
 use flat::list_from;
 use flat::list_trailers;
-use listing::Listing;
 use numbers::RESULT_LEN;
 use numbers::put;
 use rules::Cursor;
-
-// Of an answer of a call that lists.
-fn put_listing(answer: Listing, result: &mut [usize]) -> u32
-    requires { ⌜ resultLength ≤ length (now result) ⌝ }
-    ensures { λ r. ⌜ r ≡ codeOf (listingSays answer) (now (result .entry)) ⌝ }
-    ensures { λ _. ⌜ now (result .exit) ≡ resultOf (listingSays answer) (now (result .entry)) ⌝ }
-{
-    match answer {
-        Listing::Listed(counts) => put(0, &[counts.records, counts.bytes], result),
-        Listing::FootListed { counts, looked } => put(
-            0,
-            &[counts.records, counts.bytes, looked],
-            result,
-        ),
-        Listing::TooLong => put(1, &[], result),
-        Listing::BadPlace => put(2, &[], result),
-        Listing::MoreBytes => put(8, &[], result),
-        Listing::ShortTable(counts) => put(4, &[counts.records, counts.bytes], result),
-        Listing::NoRoom(counts) => put(3, &[counts.records, counts.bytes], result),
-    }
-}
 
 // All trailers from `at`, on the line with the number `line`, on.
 #[no_mangle]

@@ -1,15 +1,14 @@
 // The calls on a whole message in either reading: whole, or up to its first divider.
 ghost use mathlib.Core.Path.{_≡_};
-ghost use Prim.Native.Nat.{_≤_};
 ghost use lib.ListN.{length};
-ghost use Rattle.divider.specs.Readings.{endFoundSays, endSays};
+ghost use Rattle.divider.specs.Readings.{endSays};
 ghost use Rattle.message.specs.Decode.{titleAnswer};
 ghost use Rattle.message.specs.Message.{summaryBuffer, walkAnswer};
-ghost use Rattle.numbers.specs.Numbers.{bufferOf, codeOf, resultLength, resultOf};
+ghost use Rattle.numbers.specs.Numbers.{bufferOf, codeOf, resultOf};
 ghost use Rattle.reading.specs.Reading.{summaryWith};
 ghost use Rattle.exports.specs.ByReading.{askedIn, leftAsked, readingOf};
 use crate::SHORT_RESULT;
-use divider::EndFound;
+use answers::readings::put_end;
 use divider::Reading;
 use divider::message_end;
 use numbers::RESULT_LEN;
@@ -38,18 +37,6 @@ pub fn reading_of(reading: u32) -> ReadingAsked
         0 => ReadingAsked::In(Reading::Whole),
         1 => ReadingAsked::In(Reading::AboveDivider),
         _ => ReadingAsked::NoReading,
-    }
-}
-
-// Of an answer of `message_end`.
-fn put_end(answer: EndFound, result: &mut [usize]) -> u32
-    requires { ⌜ resultLength ≤ length (now result) ⌝ }
-    ensures { λ r. ⌜ r ≡ codeOf (endFoundSays answer) (now (result .entry)) ⌝ }
-    ensures { λ _. ⌜ now (result .exit) ≡ resultOf (endFoundSays answer) (now (result .entry)) ⌝ }
-{
-    match answer {
-        EndFound::At(end) => put(0, &[end], result),
-        EndFound::TooLong => put(1, &[], result),
     }
 }
 

@@ -1,32 +1,11 @@
 // Who signed: the mailbox call for C and Rust.
 ghost use mathlib.Core.Path.{_≡_};
-ghost use Prim.Native.Nat.{_≤_};
-ghost use lib.ListN.{length};
-ghost use Rattle.mailbox.specs.Answers.{mailboxAnswer, mailboxSays};
-ghost use Rattle.numbers.specs.Numbers.{codeOf, resultLength, resultOf};
+ghost use Rattle.mailbox.specs.Answers.{mailboxAnswer};
+ghost use Rattle.numbers.specs.Numbers.{codeOf, resultOf};
 use crate::SHORT_RESULT;
-use mailbox::MailboxFound;
+use answers::who::put_mailbox;
 use numbers::RESULT_LEN;
-use numbers::put;
 use signer::mailbox;
-
-// Of an answer of `mailbox`.
-fn put_mailbox(answer: MailboxFound, result: &mut [usize]) -> u32
-    requires { ⌜ resultLength ≤ length (now result) ⌝ }
-    ensures { λ r. ⌜ r ≡ codeOf (mailboxSays answer) (now (result .entry)) ⌝ }
-    ensures { λ _. ⌜ now (result .exit) ≡ resultOf (mailboxSays answer) (now (result .entry)) ⌝ }
-{
-    match answer {
-        MailboxFound::Mailbox { name, address } => put(
-            0,
-            &[name.start, name.end, address.start, address.end],
-            result,
-        ),
-        MailboxFound::TooLong => put(1, &[], result),
-        MailboxFound::NotAMailbox { at } => put(14, &[at], result),
-        MailboxFound::NinthComment { at } => put(15, &[at], result),
-    }
-}
 
 // The name and the address of a value that is a mailbox.
 #[no_mangle]

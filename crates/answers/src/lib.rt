@@ -1,0 +1,8 @@
+// The answers of the calls that document 02 adds, as numbers: crates/numbers has those of document 01's calls.
+pub mod additions;
+pub mod bundles;
+pub mod closings;
+pub mod commits;
+pub mod lists;
+pub mod readings;
+pub mod who;
