@@ -12,7 +12,8 @@ use lib.ListN.{length, drop, length-append}
 use Rattle.rules.proofs.Answers.{Decides, decides}
 use Rattle.rules.specs.Answers.{Said, says, number, values, afterwards, limit, overLimit}
 use Rattle.rules.specs.Lists.{any}
-use Rattle.appending.specs.Added.{Asked, added, goodToken, goodValue, hasLine, messageTrailers, pairOf}
+use Rattle.rules.specs.Paragraph.{messageTrailers}
+use Rattle.appending.specs.Added.{Asked, added, goodToken, goodValue, hasLine, pairOf}
 use Rattle.appending.proofs.Asked.{asked}
 use Rattle.appending.proofs.ReadBack.{read-back}
 use Rattle.adding.specs.Answers.{addAnswer, addBuffer, addedSays}

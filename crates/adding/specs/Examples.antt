@@ -6,7 +6,8 @@ use Prim.Native.String.{String}
 use lib.ListN.{length, take}
 use Rattle.rules.specs.Answers.{Said, says}
 use Rattle.rules.specs.Bytes.{bytes}
-use Rattle.appending.specs.Added.{messageTrailers, pairOf}
+use Rattle.rules.specs.Paragraph.{messageTrailers}
+use Rattle.appending.specs.Added.{pairOf}
 use Rattle.adding.specs.Answers.{addAnswer, addBuffer}
 
 pub data Row : Type 0 where

@@ -12,7 +12,7 @@ use lib.Seq.{take-append-seam}
 use Rattle.rules.specs.Bytes.{LF, CR}
 use Rattle.rules.specs.Lines.{Line, lines, blank}
 use Rattle.rules.specs.Lists.{if_then_else_, All, any, equal, join}
-use Rattle.rules.specs.Paragraph.{solid, Body, empty, ended, nothing, aboveLines, groupedLines, bodyLines, IsBody, parse, blockStart, endingBelow, trailersOf}
+use Rattle.rules.specs.Paragraph.{solid, Body, empty, ended, nothing, aboveLines, groupedLines, bodyLines, IsBody, parse, endingBelow, trailersOf, messageTrailers}
 use Rattle.rules.specs.Title.{LineEnd, lf, crlf, body, bodyStart}
 use Rattle.rules.specs.Trailer.{Trailer, trailer, placeOf}
 use Rattle.rules.proofs.BodyTrailers.{blockTrailers, body-trailers}
@@ -20,8 +20,9 @@ use Rattle.rules.proofs.Lines.{join-lines}
 use Rattle.rules.proofs.Lists.{equal-is, is-true, join-append, or-cases}
 use Rattle.rules.proofs.Paragraph.{no-last-run, parse-is, parse-lines, tree-last-run}
 use Rattle.rules.proofs.Title.{body-fits}
-use Rattle.rules.proofs.Walk.{message-walk, shifted}
-use Rattle.appending.specs.Added.{NewMessage, kept, lacking, newEnd, isBlock, hasBlock, emptyLine, newLine, above, added, Asked, messageTrailers, pairOf, toldOf}
+use Rattle.rules.proofs.Messages.{message-trailers}
+use Rattle.rules.proofs.Walk.{shifted}
+use Rattle.appending.specs.Added.{NewMessage, kept, lacking, newEnd, isBlock, hasBlock, emptyLine, newLine, above, added, Asked, pairOf, toldOf}
 use Rattle.appending.proofs.Alike.{Alike}
 use Rattle.appending.proofs.Bodies.{New, addedBelow, one-more, only-trailers, trailers-by}
 use Rattle.appending.proofs.Titles.{isEnd, behindEnd, afterTitle, body-lines, title-cut}
@@ -42,7 +43,7 @@ told-shifted n [] = refl
 told-shifted n (trailer at l js ∷ ts) = rw (told-shifted n ts)
 
 message-told : (m : List ℕ) → map toldOf (messageTrailers m) ≡ map (further (bodyStart m)) (toldIn (body m))
-message-told m = ap (map toldOf) (message-walk m (blockStart (body m))) ∙ told-shifted (bodyStart m) (trailersOf (body m))
+message-told m = ap (map toldOf) (message-trailers m) ∙ told-shifted (bodyStart m) (trailersOf (body m))
 
 body-size : (m : List ℕ) → bodyStart m + length (body m) ≡ length m
 body-size m = omega (arith, length-drop (bodyStart m) m, body-fits m)

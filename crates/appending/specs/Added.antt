@@ -9,9 +9,9 @@ use lib.Dec.{T}
 use Rattle.rules.specs.Bytes.{LF, CR, space, colon, tokenByte}
 use Rattle.rules.specs.Lines.{Line, inner, ending, lines, blank}
 use Rattle.rules.specs.Lists.{if_then_else_, All, all, any, equal, filled, join}
-use Rattle.rules.specs.Paragraph.{solid, Body, empty, ended, accepted, parse, blockStart, endingBelow}
-use Rattle.rules.specs.Title.{body, bodyStart}
-use Rattle.rules.specs.Trailer.{Trailer, placeOf, tokenOf, rawValue, unfolded, walkFrom}
+use Rattle.rules.specs.Paragraph.{solid, Body, empty, ended, accepted, parse, endingBelow}
+use Rattle.rules.specs.Title.{body}
+use Rattle.rules.specs.Trailer.{Trailer, placeOf, tokenOf, rawValue, unfolded}
 use Rattle.rules.specs.White.{trim}
 use Rattle.rules.specs.declared.Ending.{Ending}
 
@@ -101,10 +101,6 @@ unfoldable pub added : List ℕ → List ℕ → List ℕ → List ℕ
 added message token value = above message ++ newLine token value (newEnd (endingBelow message))
 
 -- ---- what is read back
-
--- the trailers of a message, at their places in it
-abbrev pub messageTrailers : List ℕ → List Trailer
-messageTrailers message = walkFrom message (bodyStart message + blockStart (body message))
 
 -- what is told of a trailer: its token and its unfolded value; and where it begins
 abbrev pub pairOf : Trailer → List ℕ × List ℕ

@@ -7,12 +7,13 @@ use Prim.Native.Nat.{ℕ}
 use Rattle.rules.specs.Above.{EndsIn, BlankThenNot, Told, told, fromEnd}
 use Rattle.rules.specs.Lines.{lines}
 use Rattle.rules.specs.Lists.{if_then_else_}
-use Rattle.rules.specs.Paragraph.{blockStart, trailersOf}
+use Rattle.rules.specs.Paragraph.{messageTrailers, trailersOf}
 use Rattle.rules.specs.Title.{body, bodyStart}
 use Rattle.rules.specs.Trailer.{Trailer, trailer, those, tokenOf}
 use Rattle.rules.proofs.Above.{nothing-reaches-down}
-use Rattle.rules.proofs.Walk.{shifted, message-walk}
-use Rattle.closing.specs.Closing.{has, content, contents, entryTrailers, answer, mayErase, erases}
+use Rattle.rules.proofs.Messages.{message-trailers}
+use Rattle.rules.proofs.Walk.{shifted}
+use Rattle.closing.specs.Closing.{has, content, contents, answer, mayErase, erases}
 use Rattle.closing.specs.declared.Field.{Field}
 use Rattle.closing.proofs.Exactly.{same-answer}
 
@@ -29,10 +30,9 @@ contents-kept f g same (t ∷ ts) = rw (same t .0) (by (has f (tokenOf t)) (cont
     by false e = e
 
 -- the trailers of a message have the contents of its body's
-pub of-the-body : (m : List ℕ) → answer (entryTrailers m) ≡ answer (trailersOf (body m))
-unfolding entryTrailers
+pub of-the-body : (m : List ℕ) → answer (messageTrailers m) ≡ answer (trailersOf (body m))
 of-the-body m =
-    ap answer (message-walk m (blockStart (body m)))
+    ap answer (message-trailers m)
     ∙ same-answer (map (shifted (bodyStart m)) (trailersOf (body m))) (trailersOf (body m))
     (λ f. contents-kept f (shifted (bodyStart m)) same (trailersOf (body m)))
   where
@@ -50,7 +50,7 @@ contents-told f s ts = ap (contents f) (map-map unplaced (fromEnd s) ts) ∙ con
     same (trailer at l js) = (refl, refl)
 
 pub nothing-above-decides : (one two foot : List ℕ) → EndsIn (body one) foot → EndsIn (body two) foot → BlankThenNot (lines foot)
-    → answer (entryTrailers one) ≡ answer (entryTrailers two)
+    → answer (messageTrailers one) ≡ answer (messageTrailers two)
 nothing-above-decides one two foot a b p =
     of-the-body one
     ∙ same-answer (trailersOf (body one)) (trailersOf (body two))
@@ -61,6 +61,6 @@ nothing-above-decides one two foot a b p =
     ∙ sym (of-the-body two)
 
 pub nothing-above-erases : (one two foot : List ℕ) (received : ℕ) → EndsIn (body one) foot → EndsIn (body two) foot → BlankThenNot (lines foot)
-    → mayErase (entryTrailers one) received ≡ mayErase (entryTrailers two) received
+    → mayErase (messageTrailers one) received ≡ mayErase (messageTrailers two) received
 unfolding mayErase
 nothing-above-erases one two foot received a b p = ap (erases received) (nothing-above-decides one two foot a b p)

@@ -5,8 +5,9 @@ use mathlib.Core.List.{List, [], _∷_}
 use Prim.Native.Nat.{ℕ, _+_}
 use lib.ListN.{length}
 use Rattle.rules.specs.Answers.{Said, says, Row, row, judged}
+use Rattle.rules.specs.Paragraph.{messageTrailers}
 use Rattle.rules.specs.Trailer.{Trailer}
-use Rattle.closing.specs.Closing.{Answer, noted, refused, answer, entryTrailers, erases}
+use Rattle.closing.specs.Closing.{Answer, noted, refused, answer, erases}
 use Rattle.closing.specs.Judged.{contentAt}
 use Rattle.closing.specs.declared.EraseFound.{EraseFound}
 use Rattle.closing.specs.declared.Fault.{Fault}
@@ -65,10 +66,10 @@ noteSaid ts a = judged (faulty a ∷ []) (says 0 (noteValues ts a))
 abbrev pub eraseSaid : ℕ → Answer → Said
 eraseSaid received a = judged (faulty a ∷ []) (says 0 (flag (erases received a) ∷ []))
 
--- ---- of an entry's message; "after 1", which judges the message uncut, and stands before these for either reading (divider/specs/Readings)
+-- ---- "its trailers": those of an entry's message; "after 1", which judges the message uncut, and stands before these for either reading (divider/specs/Readings)
 
 abbrev pub noteAnswer : List ℕ → Said
-noteAnswer m = noteSaid (entryTrailers m) (answer (entryTrailers m))
+noteAnswer m = noteSaid (messageTrailers m) (answer (messageTrailers m))
 
 abbrev pub eraseAnswer : ℕ → List ℕ → Said
-eraseAnswer received m = eraseSaid received (answer (entryTrailers m))
+eraseAnswer received m = eraseSaid received (answer (messageTrailers m))

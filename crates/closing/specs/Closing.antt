@@ -7,16 +7,10 @@ use Prim.Native.Nat.{ℕ, _+_, _≤_}
 use lib.Dec.{T, eqb, ltb}
 use lib.ListN.{length}
 use Rattle.rules.specs.Lists.{All, any, equal, filled, past}
-use Rattle.rules.specs.Paragraph.{blockStart}
-use Rattle.rules.specs.Title.{body, bodyStart}
-use Rattle.rules.specs.Trailer.{Trailer, rawValue, same, those, tokenOf, unfolded, walkFrom}
+use Rattle.rules.specs.Trailer.{Trailer, rawValue, same, those, tokenOf, unfolded}
 use Rattle.closing.specs.Contents.{nameOf, Decimal, stateWord, mostRecords, Good, numberOf, good}
 use Rattle.closing.specs.declared.Fault.{Fault}
 use Rattle.closing.specs.declared.Field.{Field}
-
--- "its trailers": those of an entry's message; their places count in the message
-unfoldable pub entryTrailers : List ℕ → List Trailer
-entryTrailers m = walkFrom m (bodyStart m + blockStart (body m))
 
 -- "Names match without ASCII case, in any order, among other trailers."
 abbrev pub has : Field → List ℕ → Bool

@@ -11,8 +11,9 @@ use lib.Dec.{eqb}
 use lib.ListN.{length}
 use Rattle.rules.specs.Bytes.{bytes}
 use Rattle.rules.specs.Lists.{if_then_else_}
+use Rattle.rules.specs.Paragraph.{messageTrailers}
 use Rattle.rules.specs.Trailer.{Trailer, attributionTokens, same, tokenOf}
-use Rattle.counting.specs.Report.{across, countsOf, figureOf, having, messageTrailers, numberOf, plus, reportOf, sevenOf, sum, trailerCount, whichOf, without}
+use Rattle.counting.specs.Report.{across, countsOf, figureOf, having, numberOf, plus, reportOf, sevenOf, sum, trailerCount, whichOf, without}
 
 -- ---- one trailer counts once
 

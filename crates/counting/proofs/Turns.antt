@@ -8,15 +8,12 @@ use native.Mathlib.Numerals.{add-one}
 use native.Mathlib.Omega.{arith}
 use lib.Dec.{eqb}
 use lib.ListN.{length, take, drop, getD, set, length-drop}
-use Rattle.rules.proofs.Paragraph.{start-within}
-use Rattle.rules.proofs.Parts.{rest}
 use Rattle.rules.proofs.Record.{places-fit, token-is}
-use Rattle.rules.proofs.Title.{body-fits}
 use Rattle.rules.proofs.Walk.{Stands, walk-moves, walk-stands, walk-step}
 use Rattle.rules.specs.Bytes.{LF}
 use Rattle.rules.specs.Lines.{Line, before, folds, lines}
 use Rattle.rules.specs.Lists.{if_then_else_, filled, run}
-use Rattle.rules.specs.Paragraph.{blockStart}
+use Rattle.rules.specs.Paragraph.{blockStart, messageTrailers}
 use Rattle.rules.specs.Title.{body, bodyStart}
 use Rattle.rules.specs.Trailer.{Trailer, endOf, tokenOf, trailer, trailerLine, walk, walkFrom}
 use Rattle.trailer.proofs.Steps.{First, first-is, none-is}
@@ -26,7 +23,7 @@ use Rattle.trailer.specs.declared.walk.NextTrailer.{NextTrailer}
 use Rattle.counting.proofs.Figures.{figure-le, seven-sum}
 use Rattle.bundle.proofs.Judged.{next-offset, no-offset}
 use Rattle.bundle.specs.Bundle.{countOf, messagesIn, offset, offsets, parts}
-use Rattle.counting.specs.Report.{countsOf, figureOf, messageTrailers, numberOf, plus, sevenOf, sum, without, withoutOf}
+use Rattle.counting.specs.Report.{countsOf, figureOf, numberOf, plus, sevenOf, sum, without, withoutOf}
 
 -- ---- lists of counts
 
@@ -145,16 +142,6 @@ pub record Walked (m c₀ c : List ℕ) (at from found : ℕ) : Type 0 where
   pub few-found : found ≤ from
 
 -- ---- one message more
-
--- the walk of a message starts at the block start of its body
-pub walk-at : (m : List ℕ) (s k : ℕ) → s ≡ bodyStart m → k ≡ blockStart (take (length m - s) (drop s m)) → messageTrailers m ≡ walkFrom m (s + k)
-unfolding messageTrailers
-walk-at m s k p q = rw (q, rest m s, p)
-
-pub walk-fits : (m : List ℕ) (s k : ℕ) → s ≡ bodyStart m → k ≡ blockStart (take (length m - s) (drop s m)) → s + k ≤ length m
-walk-fits m s k p q =
-    let e : k ≡ blockStart (body m) = q ∙ rw (rest m s, p) in
-    omega (arith, body-fits m, start-within (body m), length-drop (bodyStart m) m)
 
 none-length : (ts : List Trailer) → length ts ≡ 0 → _≡_ {A = ℕ} (if filled ts then 0 else 1) 1
 none-length [] e = refl

@@ -5,13 +5,8 @@ use Prim.Native.Nat.{ℕ, suc, _+_}
 use lib.Dec.{eqb}
 use lib.ListN.{length}
 use Rattle.rules.specs.Lists.{if_then_else_, filled}
-use Rattle.rules.specs.Paragraph.{blockStart}
-use Rattle.rules.specs.Title.{body, bodyStart}
-use Rattle.rules.specs.Trailer.{Trailer, attributionTokens, same, tokenOf, walkFrom}
-
--- "the trailers that the single walks of the first reading find", of one message; their places count in the message
-unfoldable pub messageTrailers : List ℕ → List Trailer
-messageTrailers m = walkFrom m (bodyStart m + blockStart (body m))
+use Rattle.rules.specs.Paragraph.{messageTrailers}
+use Rattle.rules.specs.Trailer.{Trailer, attributionTokens, same, tokenOf}
 
 -- which of the names a token is, ASCII case aside; one past the last where it is none
 abbrev pub whichOf : List (List ℕ) → List ℕ → ℕ
@@ -32,6 +27,7 @@ abbrev pub across : (List ℕ → ℕ) → List (List ℕ) → ℕ
 across f [] = 0
 across f (m ∷ ms) = f m + across f ms
 
+-- "the trailers that the single walks of the first reading find" are those of each message
 abbrev pub having : ℕ → List ℕ → ℕ
 having k m = numberOf k (messageTrailers m)
 

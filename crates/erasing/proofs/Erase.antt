@@ -7,8 +7,9 @@ use native.Mathlib.Omega.{arith}
 use lib.Dec.{eqb}
 use Rattle.rules.specs.Answers.{Said, says, number, overLimit}
 use Rattle.rules.specs.Lists.{if_then_else_}
+use Rattle.rules.specs.Paragraph.{messageTrailers}
 use Rattle.closing.specs.Answers.{eraseAnswer, flag, noteAnswer, refusalSays}
-use Rattle.closing.specs.Closing.{answer, entryTrailers}
+use Rattle.closing.specs.Closing.{answer}
 use Rattle.closing.specs.declared.Fault.{Fault}
 use Rattle.closing.specs.declared.Field.{Field}
 use Rattle.closing.proofs.Answers.{limit-said, note-said, refusal-said}
@@ -23,18 +24,18 @@ module _ (reading : Reading) (m : List ℕ) (received : ℕ) where
       at : (b : Bool) → says 0 (start ∷ end ∷ records ∷ flag whole ∷ []) ≡ (if b then says 1 [] else noteAnswer (read reading m))
           → says 0 (flag (whole && eqb records received) ∷ []) ≡ (if b then says 1 [] else eraseAnswer received (read reading m))
       at true e = absurd (omega (arith, ap number e))
-      at false e = note-said (entryTrailers (read reading m)) (answer (entryTrailers (read reading m))) received start end records whole e
+      at false e = note-said (messageTrailers (read reading m)) (answer (messageTrailers (read reading m))) received start end records whole e
 
   pub by-limit : says 1 [] ≡ inReading reading noteAnswer m → says 1 [] ≡ inReading reading (eraseAnswer received) m
   by-limit = at (overLimit m)
     where
       at : (b : Bool) → says 1 [] ≡ (if b then says 1 [] else noteAnswer (read reading m)) → says 1 [] ≡ (if b then says 1 [] else eraseAnswer received (read reading m))
       at true e = refl
-      at false e = absurd (limit-said (entryTrailers (read reading m)) (answer (entryTrailers (read reading m))) e)
+      at false e = absurd (limit-said (messageTrailers (read reading m)) (answer (messageTrailers (read reading m))) e)
 
   pub by-refusal : (k : Fault) (f : Field) → refusalSays k f ≡ inReading reading noteAnswer m → refusalSays k f ≡ inReading reading (eraseAnswer received) m
   by-refusal k f = at (overLimit m)
     where
       at : (b : Bool) → refusalSays k f ≡ (if b then says 1 [] else noteAnswer (read reading m)) → refusalSays k f ≡ (if b then says 1 [] else eraseAnswer received (read reading m))
       at true e = e
-      at false e = refusal-said (entryTrailers (read reading m)) (answer (entryTrailers (read reading m))) received k f e
+      at false e = refusal-said (messageTrailers (read reading m)) (answer (messageTrailers (read reading m))) received k f e

@@ -1,5 +1,4 @@
 -- When the calls say yes, and what cannot make them; what carries the proofs of the code; the worked examples.
-pub mod Start
 pub mod Erase
 pub mod Readings
 pub mod Examples

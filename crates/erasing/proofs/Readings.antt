@@ -11,10 +11,11 @@ use Rattle.rules.specs.Above.{EndsIn, BlankThenNot}
 use Rattle.rules.specs.Answers.{Said, says, number, overLimit, values}
 use Rattle.rules.specs.Lines.{lines}
 use Rattle.rules.specs.Lists.{if_then_else_}
+use Rattle.rules.specs.Paragraph.{messageTrailers}
 use Rattle.rules.specs.Title.{body}
 use Rattle.rules.proofs.Lists.{is-true}
 use Rattle.closing.specs.Answers.{eraseAnswer, eraseFoundSays, eraseSaid, flag}
-use Rattle.closing.specs.Closing.{Answer, noted, refused, MayErase, answer, entryTrailers, erases, mayErase}
+use Rattle.closing.specs.Closing.{Answer, noted, refused, MayErase, answer, erases, mayErase}
 use Rattle.closing.specs.declared.EraseFound.{EraseFound}
 use Rattle.closing.specs.declared.Fault.{Fault}
 use Rattle.closing.proofs.Above.{nothing-above-decides}
@@ -42,19 +43,19 @@ said-yes received (refused k f) t = absurd t
 
 -- the message is within the limit, and the trailers of the message so read are a closing note that is complete, of the count received
 abbrev pub Lets : Reading → List ℕ → ℕ → Type 0
-Lets reading m received = (overLimit m ≡ false) × MayErase (entryTrailers (read reading m)) received
+Lets reading m received = (overLimit m ≡ false) × MayErase (messageTrailers (read reading m)) received
 
 module _ (reading : Reading) (m : List ℕ) (received : ℕ) where
   yes-by : (b : Bool) → overLimit m ≡ b → eraseFoundSays EraseFound.Yes ≡ (if b then says 1 [] else eraseAnswer received (read reading m)) → Lets reading m received
   unfolding mayErase
   yes-by true q e = absurd (omega (arith, ap number e))
   yes-by false q e =
-      (q, yes-exactly (entryTrailers (read reading m)) received .0 (yes-said received (answer (entryTrailers (read reading m))) e))
+      (q, yes-exactly (messageTrailers (read reading m)) received .0 (yes-said received (answer (messageTrailers (read reading m))) e))
 
   by-yes : Lets reading m received → eraseFoundSays EraseFound.Yes ≡ inReading reading (eraseAnswer received) m
   unfolding mayErase
   by-yes (q, y) =
-      rw q (said-yes received (answer (entryTrailers (read reading m))) (yes-exactly (entryTrailers (read reading m)) received .1 y))
+      rw q (said-yes received (answer (messageTrailers (read reading m))) (yes-exactly (messageTrailers (read reading m)) received .1 y))
 
   -- ""May erase" is yes exactly when the state is complete and Records equals the count the caller received."
   pub yes-exactly-when : (eraseFoundSays EraseFound.Yes ≡ inReading reading (eraseAnswer received) m → Lets reading m received)

@@ -3,23 +3,20 @@ use mathlib.Core.Bool.{Bool, true, false}
 use mathlib.Core.List.{List, [], _∷_}
 use mathlib.Core.Path.{_≡_, refl, ap, _∙_}
 use Prim.Native.Nat.{ℕ, _≤_}
-use native.Mathlib.Omega.{arith}
 use borrow.Author.Tests.{le-leb}
-use lib.ListN.{length, length-drop}
+use lib.ListN.{length}
 use Rattle.rules.proofs.Answers.{judged-answer}
+use Rattle.rules.proofs.Messages.{start-in-message}
 use Rattle.rules.proofs.Number.{right-fits}
-use Rattle.rules.proofs.Paragraph.{start-within}
-use Rattle.rules.proofs.Title.{body-fits}
 use Rattle.rules.specs.Answers.{says, judged, overLimit, row, tooLong, upTo, values, walkFoundSays}
 use Rattle.rules.specs.Lists.{any}
 use Rattle.rules.specs.Number.{cursorFits}
-use Rattle.rules.specs.Title.{body, bodyStart}
 use Rattle.rules.specs.declared.Cursor.{Cursor}
 use Rattle.rules.specs.declared.WalkFound.{WalkFound}
 use Rattle.message.specs.Message.{walkAnswer, walkAnswerBefore, walkStart}
 
 pub walk-fits : (m : List ℕ) → walkStart m .at ≤ length m
-walk-fits m = omega (arith, body-fits m, start-within (body m), length-drop (bodyStart m) m)
+walk-fits m = start-in-message m
 
 -- the cursor of two values
 abbrev cursorIn : List ℕ → Cursor

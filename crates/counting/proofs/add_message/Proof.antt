@@ -4,9 +4,11 @@ use Prim.Native.Nat.{_+_, _≤_}
 use native.Mathlib.Omega.{arith}
 use lib.ListN.{length}
 use Rattle.rules.proofs.Title.{body-fits}
+use Rattle.rules.specs.Paragraph.{messageTrailers}
 use Rattle.rules.specs.Trailer.{walkFrom}
-use Rattle.counting.specs.Report.{messageTrailers, plus, sevenOf}
-use Rattle.counting.proofs.Turns.{walk-at, walk-fits, without-none, without-some}
+use Rattle.counting.specs.Report.{plus, sevenOf}
+use Rattle.rules.proofs.Messages.{walk-at, walk-fits}
+use Rattle.counting.proofs.Turns.{without-none, without-some}
 use borrow.Author.Needs.{needs}
 use Rattle.counting.proofs.add_message.Statement.{statement}
 use Rattle.counting.proofs.add_message.Tie as tie

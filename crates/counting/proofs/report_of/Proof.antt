@@ -6,8 +6,9 @@ use native.Mathlib.Numerals.{add-one}
 use native.Mathlib.Omega.{arith}
 use borrow.Author.Needs.{needs}
 use lib.ListN.{length, take, drop, length-take}
+use Rattle.rules.specs.Paragraph.{messageTrailers}
 use Rattle.bundle.specs.Bundle.{messagesIn, offset}
-use Rattle.counting.specs.Report.{countsOf, messageTrailers, plus, sevenOf, sum, withoutOf}
+use Rattle.counting.specs.Report.{countsOf, plus, sevenOf, sum, withoutOf}
 use Rattle.counting.proofs.Turns.{Reported, counts-turn, counts-zero, from-first, from-last, from-next, length-plus, messagesFrom, plus-zeros, sum-message, without-le}
 use Rattle.bundle.proofs.Judged.{count-there, header-between}
 use Rattle.counting.proofs.report_of.Statement.{statement}

@@ -1,12 +1,11 @@
 -- `dividing::print_text` is safe: the first line's text is no longer than the lines. Assumes nothing.
-use mathlib.Core.Path.{_≡_, sym, ap}
+use mathlib.Core.Path.{_≡_, sym}
 use Prim.Native.Nat.{_≤_}
 use native.Mathlib.Omega.{arith}
 use borrow.Author.Needs.{needs}
-use lib.ListN.{length, length-append, take}
+use lib.ListN.{length, take}
 use lib.Seq.{length-take-le}
-use Rattle.rules.specs.Lines.{Line, text}
-use Rattle.rules.proofs.Lines.{text-ending}
+use Rattle.rules.proofs.Lines.{text-shorter}
 use Rattle.text.proofs.Lines.{first-within}
 use Rattle.dividing.proofs.print_text.Statement.{statement}
 use Rattle.dividing.proofs.print_text.Tie as tie
@@ -27,9 +26,6 @@ slice-aggregate-trim-line-ending c = fits (c .before) .1
 
 trim-line-ending-requires : tie.Need-trim-line-ending-requires
 trim-line-ending-requires c κs = search needs
-
-text-shorter : (l : Line) → length (text l) ≤ length l
-text-shorter l = let (e, w, q) = text-ending l in omega (arith, length-append (text l) e, ap length q)
 
 slice-aggregate-write-all : tie.Need-slice-aggregate-write-all
 slice-aggregate-write-all c =

@@ -9,7 +9,7 @@ use Rattle.rules.proofs.Title.{body-fits}
 use Rattle.rules.specs.Trailer.{Trailer}
 use Rattle.closing.specs.Answers.{noteSaid}
 use Rattle.closing.specs.Closing.{answer}
-use Rattle.erasing.proofs.Start.{entry-walk, entry-fits}
+use Rattle.rules.proofs.Messages.{walk-at, walk-fits}
 use Rattle.erasing.proofs.note_of.Statement.{statement}
 use Rattle.erasing.proofs.note_of.Tie as tie
 
@@ -35,7 +35,7 @@ fits : (b : tie.After-trailer-block-start) → let t = b .before .before in
     t .title-and-body .result .«body_start» + b .trailer-block-start .result ≤ length (t .before .before .args .message .now)
 fits b =
     let t = b .before .before in
-    entry-fits (t .before .before .args .message .now) _ _ (t .title-and-body .ensures .1) (b .trailer-block-start .ensures)
+    walk-fits (t .before .before .args .message .now) _ _ (t .title-and-body .ensures .1) (b .trailer-block-start .ensures)
 
 add-at : tie.Need-add-at
 add-at c = omega (arith, fits c)
@@ -49,7 +49,7 @@ returns c =
     let t = b .before .before in
     c .note-from .ensures
     ∙ ap (λ (ts : List Trailer). noteSaid ts (answer ts))
-    (sym (entry-walk (t .before .before .args .message .now) _ _ (t .title-and-body .ensures .1) (b .trailer-block-start .ensures)))
+    (sym (walk-at (t .before .before .args .message .now) _ _ (t .title-and-body .ensures .1) (b .trailer-block-start .ensures)))
 
 pub note-of-spec : {M : Type 1} → statement M
 note-of-spec =

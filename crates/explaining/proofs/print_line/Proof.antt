@@ -1,12 +1,9 @@
 -- `explaining::print_line` is safe: a line's text is no longer than the line. Assumes nothing.
-use mathlib.Core.Path.{_≡_, sym, ap}
-use Prim.Native.Nat.{_≤_}
+use mathlib.Core.Path.{sym}
 use native.Mathlib.Omega.{arith}
 use borrow.Author.Needs.{needs}
-use lib.ListN.{length, length-append}
 use lib.Seq.{length-take-le}
-use Rattle.rules.specs.Lines.{Line, text}
-use Rattle.rules.proofs.Lines.{text-ending}
+use Rattle.rules.proofs.Lines.{text-shorter}
 use Rattle.explaining.proofs.print_line.Statement.{statement}
 use Rattle.explaining.proofs.print_line.Tie as tie
 
@@ -15,9 +12,6 @@ print-kind-requires c κs = search needs
 
 trim-line-ending-requires : tie.Need-trim-line-ending-requires
 trim-line-ending-requires c κs = search needs
-
-text-shorter : (l : Line) → length (text l) ≤ length l
-text-shorter l = let (e, w, q) = text-ending l in omega (arith, length-append (text l) e, ap length q)
 
 slice-aggregate-print : tie.Need-slice-aggregate-print
 slice-aggregate-print c =

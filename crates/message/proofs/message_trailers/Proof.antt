@@ -1,23 +1,16 @@
 -- `message::message_trailers` meets its contract. Assumes nothing.
-use mathlib.Core.List.{List}
 use mathlib.Core.Path.{_≡_}
-use Prim.Native.Nat.{ℕ, _+_, _-_, _≤_}
+use Prim.Native.Nat.{_+_, _≤_}
 use native.Mathlib.Omega.{arith}
 use borrow.Author.Needs.{needs}
 use borrow.Author.Tests.{lt-ltb, le-ltb}
-use lib.ListN.{length, take, drop}
+use lib.ListN.{length}
+use Rattle.rules.proofs.Messages.{walk-begins}
 use Rattle.rules.proofs.Title.{body-fits}
-use Rattle.rules.specs.Paragraph.{blockStart}
-use Rattle.rules.specs.Title.{bodyStart}
-use Rattle.rules.proofs.Parts.{rest}
 use Rattle.message.specs.Message.{walkStart}
 use Rattle.message.proofs.Started.{walk-fits}
 use Rattle.message.proofs.message_trailers.Statement.{statement}
 use Rattle.message.proofs.message_trailers.Tie as tie
-
--- the body's start and the block's start in the body
-walk-at : (m : List ℕ) (s k : ℕ) → s ≡ bodyStart m → k ≡ blockStart (take (length m - s) (drop s m)) → s + k ≡ walkStart m .at
-walk-at m s k p q = rw (q, rest m s, p)
 
 returns : tie.Need-returns
 returns c = simp (lt-ltb _ _ (c .if1 .taken))
@@ -46,7 +39,7 @@ walks : (b : tie.After-trailer-block-start) → let t = b .before .before in
     t .title-and-body .result .«body_start» + b .trailer-block-start .result ≡ walkStart (t .before .before .before .args .message .now) .at
 walks b =
     let t = b .before .before in
-    walk-at (t .before .before .before .args .message .now) _ _ (t .title-and-body .ensures .1) (b .trailer-block-start .ensures)
+    walk-begins (t .before .before .before .args .message .now) _ _ (t .title-and-body .ensures .1) (b .trailer-block-start .ensures)
 
 add-at : tie.Need-add-at
 add-at c = let t = c .before .before in omega (arith, walks c, walk-fits (t .before .before .before .args .message .now))
