@@ -11,8 +11,8 @@ use lib.Seq.{paste}
 use Rattle.rules.specs.Bytes.{LF, CR, colon, space}
 use Rattle.rules.specs.Paragraph.{endingBelow}
 use Rattle.rules.specs.declared.Ending.{Ending}
-use Rattle.bundling.specs.Writing.{onto}
-use Rattle.bundling.proofs.Writing.{length-onto, onto-append, pasted}
+use Rattle.copy.specs.Onto.{onto}
+use Rattle.copy.proofs.Onto.{length-onto, onto-append, pasted}
 use Rattle.appending.specs.Added.{above, added, emptyLine, hasBlock, hasLine, kept, lacking, newEnd, newLine}
 use Rattle.appending.proofs.ForCode.{kept-front, kept-none}
 use Rattle.adding.specs.Pieces.{endBytes, piecesOf}

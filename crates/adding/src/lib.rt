@@ -2,7 +2,7 @@
 ghost use mathlib.Core.Path.{_≡_};
 ghost use Prim.Native.Nat.{_+_, _≤_};
 ghost use lib.ListN.{length};
-ghost use Rattle.bundling.specs.Writing.{onto};
+ghost use Rattle.copy.specs.Onto.{onto};
 ghost use Rattle.appending.specs.Added.{above, goodToken, goodValue, hasBlock, kept, newLine};
 ghost use Rattle.adding.specs.Answers.{addAnswer, addBuffer, addedSays};
 ghost use Rattle.adding.specs.Pieces.{endsOf, piecesOf, endBytes};

@@ -1,56 +1,22 @@
--- Writing a list over another, piece by piece, and the ranges, two numbers at a time. Assumes nothing.
+-- A bundle written piece by piece, and the ranges, two numbers at a time. Assumes nothing.
 use mathlib.Core.Bool.{true, false, _&&_}
 use mathlib.Core.List.{List, [], _∷_, _++_, map, append-assoc}
 use mathlib.Core.Path.{_≡_, refl, sym, ap, _∙_}
 use Prim.Native.Nat.{ℕ, suc, _+_, _-_, _*_, _/_, _%_, _≤_, _<_}
-use native.Mathlib.Nat.{add-zero, zero-add}
-use native.Mathlib.Numerals.{add-one}
 use native.Mathlib.Omega.{arith}
 use borrow.Author.Tests.{le-leb, lt-leb}
 use lib.Dec.{T, leb, leb→le}
-use lib.ListN.{length, getD, take, drop, set, length-append, length-drop, length-set, length-take, take-append-drop, drop-of-length-le}
-use lib.Seq.{drop-append-add, drop-cons, drop-drop, drop-set-lt, length-take-le, paste, take-at, take-length, take-suc-set}
+use lib.ListN.{length, getD, take, drop, set, length-append, length-drop, length-set, length-take, drop-of-length-le}
+use lib.Seq.{drop-cons, length-take-le, paste}
 use Rattle.rules.proofs.Lists.{and-left, and-right, is-true}
 use Rattle.rules.specs.Answers.{limit, rangeFits}
 use Rattle.rules.specs.Lists.{if_then_else_, join}
+use Rattle.copy.specs.Onto.{onto}
+use Rattle.copy.proofs.Onto.{length-onto, onto-append, onto-cons, onto-nil, pasted}
 use Rattle.bundle.specs.Bundle.{bundleOf, ends, headerLength, u32le}
-use Rattle.bundling.specs.Writing.{lent, onto, rangesFit}
+use Rattle.bundling.specs.Writing.{lent, rangesFit}
 use Rattle.bundle.proofs.Bundle.{holds, length-bundle, length-ends, length-numbers}
 use Rattle.bundle.proofs.Numbers.{length-u32}
-
--- ---- a list over another
-
-pub onto-nil : (i : ℕ) (d : List ℕ) → onto i [] d ≡ d
-onto-nil i d = rw (add-zero i) (take-append-drop i d)
-
-pub onto-front : (w d : List ℕ) → onto 0 w d ≡ w ++ drop (length w) d
-onto-front w d = rw (zero-add (length w))
-
-pub length-onto : (i : ℕ) (w d : List ℕ) → i + length w ≤ length d → length (onto i w d) ≡ length d
-length-onto i w d h =
-    let t : length (take i d) ≡ i = length-take-le i d (omega arith) in
-    simp (length-append, length-drop, t) (omega arith)
-
-onto-cons : (i : ℕ) (r : ℕ) (rs d : List ℕ) → i < length d → onto i (r ∷ rs) d ≡ onto (i + 1) rs (set d i r)
-onto-cons i r rs d h =
-    let t : take (i + 1) (set d i r) ≡ take i d ++ (r ∷ []) = rw (add-one i) (take-suc-set d i r h) in
-    let n : i + 1 + length rs ≡ i + suc (length rs) = omega arith in
-    let k : drop (i + 1 + length rs) (set d i r) ≡ drop (i + suc (length rs)) d = drop-set-lt (i + 1 + length rs) d i r (omega arith) ∙ ap (λ (m : ℕ). drop m d) n in
-    rw (t, k, append-assoc)
-
-pub onto-append : (i : ℕ) (v vs d : List ℕ) → i + length v ≤ length d → onto i (v ++ vs) d ≡ onto (i + length v) vs (onto i v d)
-onto-append i v vs d h =
-    let t : length (take i d) ≡ i = length-take-le i d (omega arith) in
-    let tv : length (take i d ++ v) ≡ i + length v = simp (length-append, t) in
-    let whole : onto i v d ≡ (take i d ++ v) ++ drop (i + length v) d = simp append-assoc in
-    let front : take (i + length v) (onto i v d) ≡ take i d ++ v = rw whole (take-at (take i d ++ v) (drop (i + length v) d) (i + length v) tv) in
-    let behind : drop (i + length v + length vs) (onto i v d) ≡ drop (i + length v + length vs) d =
-    rw (whole, ← tv) (drop-append-add (take i d ++ v) (drop (length (take i d ++ v)) d) (length vs) ∙ drop-drop (length vs) (length (take i d ++ v)) d) in
-    let n : i + length (v ++ vs) ≡ i + length v + length vs = simp length-append (omega arith) in
-    rw (front, behind, n) (simp append-assoc)
-
-pub pasted : (d s : List ℕ) (at : ℕ) → paste d at s (length s) ≡ onto at s d
-pasted d s at = rw (take-length s) (append-assoc (take at d) s (drop (at + length s) d))
 
 -- four stores are a u32
 pub four-stores : (n at : ℕ) (d : List ℕ) → at + 4 ≤ length d → set (set (set (set d at (n % 256)) (at + 1) (n / 256 % 256)) (at + 2) (n / 256 / 256 % 256)) (at + 3) (n / 256 / 256 / 256 % 256) ≡ onto at (u32le n) d

@@ -1,9 +1,9 @@
 -- Writing a bundle: document 02, K11. "the messages to write are lent as ranges of one input." The ranges are numbers, start and
 -- end in turn (a fill-in: document 02 doesn't say how they are lent).
 use mathlib.Core.Bool.{Bool, true, false, _&&_}
-use mathlib.Core.List.{List, [], _∷_, _++_}
-use Prim.Native.Nat.{ℕ, _+_, _-_}
-use lib.ListN.{length, take, drop}
+use mathlib.Core.List.{List, [], _∷_}
+use Prim.Native.Nat.{ℕ, _-_}
+use lib.ListN.{take, drop}
 use Rattle.rules.specs.Answers.{rangeFits}
 
 -- the messages that the ranges lend
@@ -17,8 +17,3 @@ abbrev pub rangesFit : List ℕ → List ℕ → Bool
 rangesFit input [] = true
 rangesFit input (start ∷ []) = false
 rangesFit input (start ∷ end ∷ rs) = rangeFits start end input && rangesFit input rs
-
--- ---- for the parts of the call: bytes written over others from a place on
-
-abbrev pub onto : ℕ → List ℕ → List ℕ → List ℕ
-onto at w d = take at d ++ (w ++ drop (at + length w) d)

@@ -20,11 +20,11 @@ use Rattle.rules.specs.declared.Cursor.{Cursor}
 use Rattle.rules.specs.declared.Kind.{Kind}
 use Rattle.rules.specs.declared.TrailerRef.{TrailerRef}
 use Rattle.rules.specs.declared.TrailerStep.{TrailerStep}
+use Rattle.copy.specs.Onto.{onto}
+use Rattle.copy.proofs.Onto.{front-written, length-onto, onto-append, onto-nil}
 use Rattle.body.proofs.Calls.{step-is}
 use Rattle.body.specs.Body.{firstStep, firstWrites, stepAnswer, stepBuffer}
 use Rattle.listing.specs.Listing.{Steps, ended, recordsFrom, recordsOf, shiftedRecord, stepped, sum, taken, valuesFrom, valuesOf}
-use Rattle.listing.specs.Turns.{onto}
-use Rattle.listing.proofs.Onto.{front-written, length-onto, onto-append, onto-nil}
 use Rattle.listing.proofs.Turn.{all-kept, length-records, single-left, single-says, taken-is}
 
 -- ---- what a step that is not refused tells of the walk

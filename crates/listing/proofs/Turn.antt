@@ -21,17 +21,18 @@ use Rattle.rules.specs.declared.Cursor.{Cursor}
 use Rattle.rules.specs.declared.Kind.{Kind}
 use Rattle.rules.specs.declared.TrailerRef.{TrailerRef}
 use Rattle.rules.specs.declared.Value.{Value}
+use Rattle.copy.specs.Onto.{onto}
+use Rattle.copy.proofs.Onto.{length-onto, onto-append, onto-front, onto-nil}
 use Rattle.body.specs.Body.{firstStep, firstWrites, stepAnswer, stepBuffer}
 use Rattle.listing.specs.Answers.{listingSays}
 use Rattle.listing.specs.Listing.{recordsOf, shiftedRecord, taken, tell, valuesOf}
-use Rattle.listing.specs.Turns.{Begun, Ready, Starts, aheadOf, counts, laid, leftAt, lists, moreOf, onto, readUpTo, refuses, turnOf, withCounts}
+use Rattle.listing.specs.Turns.{Begun, Ready, Starts, aheadOf, counts, laid, leftAt, lists, moreOf, readUpTo, refuses, turnOf, withCounts}
 use Rattle.listing.specs.declared.Beginning.{Beginning}
 use Rattle.listing.specs.declared.Counts.{Counts}
 use Rattle.listing.specs.declared.Listing.{Listing}
 use Rattle.listing.specs.declared.Spot.{Spot}
 use Rattle.listing.specs.declared.Step.{Step}
 use Rattle.listing.specs.declared.Told.{Told}
-use Rattle.listing.proofs.Onto.{length-onto, onto-append, onto-front, onto-nil}
 
 -- ---- the single step
 

@@ -4,7 +4,7 @@ use mathlib.Core.List.{List, [], _∷_, _++_, map}
 use mathlib.Core.Path.{_≡_}
 use Prim.Native.Nat.{ℕ, _+_, _≤_}
 use lib.Dec.{eqb}
-use lib.ListN.{length, take, drop}
+use lib.ListN.{length, take}
 use Rattle.rules.specs.Answers.{Said, number}
 use Rattle.rules.specs.Number.{cursorFits, movedOn}
 use Rattle.rules.specs.Record.{part, placesOf, recordOf, writtenOf}
@@ -23,10 +23,6 @@ use Rattle.listing.specs.declared.Listing.{Listing}
 use Rattle.listing.specs.declared.Spot.{Spot}
 use Rattle.listing.specs.declared.Step.{Step}
 use Rattle.listing.specs.declared.Told.{Told}
-
--- w over d, from i on; the rest of d stays
-abbrev pub onto : {A : Type 0} → ℕ → List A → List A → List A
-onto i w d = take i d ++ (w ++ drop (i + length w) d)
 
 abbrev pub counts : ℕ → ℕ → Counts
 counts records bytes = record { records = records; bytes = bytes }

@@ -22,11 +22,12 @@ use Rattle.rules.specs.declared.Kind.{Kind}
 use Rattle.rules.specs.declared.Places.{Places}
 use Rattle.rules.specs.declared.Refusal.{Refusal}
 use Rattle.rules.specs.declared.TrailerRef.{TrailerRef}
+use Rattle.copy.specs.Onto.{onto}
+use Rattle.copy.proofs.Onto.{tail-written}
 use Rattle.body.specs.Body.{firstWrites}
-use Rattle.listing.proofs.Onto.{tail-written}
 use Rattle.listing.proofs.Turn.{Split, all-kept, split, taken-is}
 use Rattle.listing.specs.Listing.{taken}
-use Rattle.listing.specs.Turns.{Ready, aheadOf, leftAt, onto, readUpTo, turnOf}
+use Rattle.listing.specs.Turns.{Ready, aheadOf, leftAt, readUpTo, turnOf}
 use Rattle.listing.specs.declared.Spot.{Spot}
 use Rattle.listing.specs.declared.Told.{Told}
 use Rattle.planning.specs.Planning.{found, from}

@@ -12,11 +12,11 @@ use Rattle.rules.specs.Record.{placesOf}
 use Rattle.rules.specs.Trailer.{Trailer, endOf, isOf, placeOf, tokenOf, unfolded, walkFrom}
 use Rattle.rules.specs.declared.Kind.{Kind}
 use Rattle.rules.specs.declared.Places.{Places}
+use Rattle.copy.specs.Onto.{onto}
+use Rattle.copy.proofs.Onto.{onto-append, onto-nil}
 use Rattle.trailer.proofs.Steps.{First, first-is}
 use Rattle.trailer.specs.Walk.{nextOf}
 use Rattle.trailer.specs.declared.walk.NextTrailer.{NextTrailer}
-use Rattle.listing.specs.Turns.{onto}
-use Rattle.listing.proofs.Onto.{onto-append, onto-nil}
 use Rattle.listing.proofs.Turn.{all-kept}
 use Rattle.adding.proofs.Writing.{size-kept}
 use Rattle.message.specs.Message.{walkStart}

@@ -7,11 +7,11 @@ use native.Mathlib.Omega.{arith}
 use lib.ListN.{length, drop, length-append}
 use Rattle.rules.specs.Answers.{limit}
 use Rattle.rules.specs.Trailer.{walkFrom}
+use Rattle.copy.specs.Onto.{onto}
+use Rattle.copy.proofs.Onto.{onto-front}
 use Rattle.io.specs.Digits.{Fewest, digits}
 use Rattle.message.specs.Message.{walkStart}
 use Rattle.message.proofs.Started.{walk-fits}
-use Rattle.listing.specs.Turns.{onto}
-use Rattle.listing.proofs.Onto.{onto-front}
 use Rattle.adding.proofs.Writing.{behind, size-kept}
 use Rattle.screen.specs.Listing.{decimal, firstLine, listing}
 use Rattle.screen.specs.Parts.{linesFrom, sizesFrom}

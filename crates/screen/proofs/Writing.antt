@@ -10,8 +10,8 @@ use lib.Seq.{paste}
 use Rattle.rules.proofs.Parts.{rest}
 use Rattle.rules.specs.Bytes.{LF, bytes}
 use Rattle.rules.specs.Trailer.{unfolded}
-use Rattle.listing.specs.Turns.{onto}
-use Rattle.listing.proofs.Onto.{tail-written}
+use Rattle.copy.specs.Onto.{onto}
+use Rattle.copy.proofs.Onto.{tail-written}
 use Rattle.adding.proofs.Writing.{behind, copied, size-kept}
 use Rattle.screen.specs.Listing.{firstLine, lineOf}
 use Rattle.screen.specs.Parts.{nameOf, valueLine}

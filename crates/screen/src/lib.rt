@@ -3,7 +3,7 @@ ghost use mathlib.Core.Path.{_≡_};
 ghost use Prim.Native.Nat.{_+_, _≤_};
 ghost use lib.ListN.{length};
 ghost use Rattle.rules.specs.Answers.{limit};
-ghost use Rattle.listing.specs.Turns.{onto};
+ghost use Rattle.copy.specs.Onto.{onto};
 ghost use Rattle.screen.specs.Answers.{listingAnswer, listingBuffer, writtenSays};
 ghost use Rattle.screen.specs.Listing.{firstLine};
 ghost use Rattle.screen.specs.Parts.{Fits, lineAt, linesFrom, nameOf, sizesFrom, valueLine};

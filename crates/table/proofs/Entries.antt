@@ -4,8 +4,9 @@ use mathlib.Core.Path.{_≡_, refl, sym, ap, _∙_}
 use Prim.Native.Nat.{ℕ, _+_, _≤_, _<_}
 use lib.ListN.{length, set}
 use Rattle.rules.specs.declared.TrailerRef.{TrailerRef}
-use Rattle.listing.proofs.Onto.{onto-cons, onto-nil}
-use Rattle.listing.specs.Turns.{laid, onto}
+use Rattle.copy.specs.Onto.{onto}
+use Rattle.copy.proofs.Onto.{onto-cons, onto-nil}
+use Rattle.listing.specs.Turns.{laid}
 
 abbrev pub one : TrailerRef → List TrailerRef
 one r = r ∷ []

@@ -8,7 +8,7 @@ use borrow.Author.Needs.{needs}
 use borrow.Author.Tests.{not-false, not-true}
 use lib.ListN.{length}
 use Rattle.rules.specs.Answers.{limit}
-use Rattle.bundling.proofs.Writing.{onto-front}
+use Rattle.copy.proofs.Onto.{onto-front}
 use Rattle.appending.specs.Added.{above, added, goodToken, goodValue, hasLine}
 use Rattle.adding.proofs.Answers as answers
 use Rattle.adding.proofs.Writing as laws

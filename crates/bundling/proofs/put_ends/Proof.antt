@@ -7,8 +7,10 @@ use native.Mathlib.Omega.{arith}
 use borrow.Author.Needs.{needs}
 use lib.ListN.{length, getD, drop}
 use Rattle.rules.specs.Lists.{join}
+use Rattle.copy.specs.Onto.{onto}
+use Rattle.copy.proofs.Onto.{length-onto, onto-nil}
 use Rattle.bundle.specs.Bundle.{ends, u32le}
-use Rattle.bundling.specs.Writing.{lent, onto, rangesFit}
+use Rattle.bundling.specs.Writing.{lent, rangesFit}
 use Rattle.bundle.proofs.Numbers.{length-u32}
 use Rattle.bundling.proofs.Writing as laws
 use Rattle.bundling.proofs.put_ends.Statement.{statement}
@@ -81,7 +83,7 @@ loop-again c =
     let fits : o .place + 4 * length (lent (a .input .now) (drop (o .j) (a .ranges .now))) ≤ length (o .out) = omega (arith, o .inv .2, o .inv .3) in (
       x .two,
       x .fit,
-      ap length (u .put-u32 .ensures) ∙ laws.length-onto (o .place) (u32le to) (o .out) (omega (arith, length-u32 to, ap length (x .list))) ∙ o .inv .2,
+      ap length (u .put-u32 .ensures) ∙ length-onto (o .place) (u32le to) (o .out) (omega (arith, length-u32 to, ap length (x .list))) ∙ o .inv .2,
       omega (arith, ap length (x .list), o .inv .3),
       omega (arith, size w, o .inv .4),
       ap (λ b. onto (o .place + 4) (join (map u32le (ends to (lent (a .input .now) (drop (o .j + 2) (a .ranges .now)))))) b) (u .put-u32 .ensures)
@@ -97,7 +99,7 @@ returns c =
     let l = c .before in
     let a = l .before .before .before .before .args in
     let none = laws.none-lent (a .input .now) (a .ranges .now) (l .loop .j) (c .loop-test .left) in
-    sym (laws.onto-nil (l .loop .place) (l .loop .out)) ∙ ap (λ ms. onto (l .loop .place) (join (map u32le (ends (l .loop .end) ms))) (l .loop .out)) (sym none) ∙ l .loop .inv .5
+    sym (onto-nil (l .loop .place) (l .loop .out)) ∙ ap (λ ms. onto (l .loop .place) (join (map u32le (ends (l .loop .end) ms))) (l .loop .out)) (sym none) ∙ l .loop .inv .5
 
 pub put-ends-spec : {M : Type 1} → statement M
 put-ends-spec =

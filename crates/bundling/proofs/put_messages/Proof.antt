@@ -7,7 +7,9 @@ use borrow.Author.Needs.{needs}
 use lib.ListN.{length, getD, take, drop}
 use lib.Seq.{length-paste}
 use Rattle.rules.specs.Lists.{join}
-use Rattle.bundling.specs.Writing.{lent, onto, rangesFit}
+use Rattle.copy.specs.Onto.{onto}
+use Rattle.copy.proofs.Onto.{onto-nil}
+use Rattle.bundling.specs.Writing.{lent, rangesFit}
 use Rattle.bundling.proofs.Writing as laws
 use Rattle.bundling.proofs.put_messages.Statement.{statement}
 use Rattle.bundling.proofs.put_messages.Tie as tie
@@ -100,7 +102,7 @@ returns c =
     let l = c .before in
     let a = l .before .before .before .before .args in
     let none = laws.none-lent (a .input .now) (a .ranges .now) (l .loop .j) (c .loop-test .left) in
-    sym (laws.onto-nil (l .loop .at) (l .loop .out)) ∙ ap (λ ms. onto (l .loop .at) (join ms) (l .loop .out)) (sym none) ∙ l .loop .inv .4
+    sym (onto-nil (l .loop .at) (l .loop .out)) ∙ ap (λ ms. onto (l .loop .at) (join ms) (l .loop .out)) (sym none) ∙ l .loop .inv .4
 
 pub put-messages-spec : {M : Type 1} → statement M
 put-messages-spec =

@@ -7,6 +7,7 @@ use native.Mathlib.Omega.{arith}
 use borrow.Author.Needs.{needs}
 use borrow.Author.Tests.{not-false, not-true}
 use lib.ListN.{length}
+use Rattle.copy.proofs.Onto.{onto-front}
 use Rattle.bundle.specs.Bundle.{bundleOf}
 use Rattle.bundling.specs.Writing.{lent, rangesFit}
 use Rattle.bundling.proofs.Answers as answers
@@ -96,7 +97,7 @@ returns-6 c =
     let l = b .before .before in
     let f = l .before .before in
     let r = answers.room (input f) (ranges f) (out f) (omega arith) (fit f) (omega (arith, half f)) (size l) (b .before .if4 .left) (b .if5 .left) in
-    (r .0, c .before .before .put-bundle .ensures ∙ laws.onto-front (bundleOf (lent (input f) (ranges f))) (out f) ∙ r .1)
+    (r .0, c .before .before .put-bundle .ensures ∙ onto-front (bundleOf (lent (input f) (ranges f))) (out f) ∙ r .1)
 
 pub write-bundle-spec : {M : Type 1} → statement M
 write-bundle-spec =

@@ -3,8 +3,8 @@ use mathlib.Core.Path.{_≡_, sym, ap, _∙_}
 use native.Mathlib.Omega.{arith}
 use borrow.Author.Needs.{needs}
 use lib.ListN.{length}
-use Rattle.listing.proofs.Onto.{pasted}
-use Rattle.listing.specs.Turns.{onto}
+use Rattle.copy.specs.Onto.{onto}
+use Rattle.copy.proofs.Onto.{pasted}
 use Rattle.flat.proofs.Seven.{seven}
 use Rattle.flat.proofs.put_record.Statement.{statement}
 use Rattle.flat.proofs.put_record.Tie as tie

@@ -6,8 +6,8 @@ use native.Mathlib.Omega.{arith}
 use borrow.Author.Needs.{needs}
 use lib.ListN.{length}
 use Rattle.rules.specs.Trailer.{walkFrom}
+use Rattle.copy.specs.Onto.{onto}
 use Rattle.trailer.proofs.Steps.{none-is}
-use Rattle.listing.specs.Turns.{onto}
 use Rattle.screen.specs.Parts.{linesFrom}
 use Rattle.screen.proofs.Lines.{Found, found, found-size, line-written, lines-written}
 use Rattle.screen.proofs.put_lines.Statement.{statement}

@@ -64,9 +64,10 @@ use Rattle.rules.specs.Answers.{afterwards}
 use Rattle.body.specs.Body.{firstWrites}
 use Rattle.planning.specs.Scopes.{Lists, scopeAnswer, scopeRecords, scopeValues}
 use Rattle.listing.specs.Answers.{listingSays}
-use Rattle.listing.specs.Turns.{Begun, Ready, leftAt, onto, readUpTo, turnOf, withCounts}
+use Rattle.listing.specs.Turns.{Begun, Ready, leftAt, readUpTo, turnOf, withCounts}
 use Rattle.rules.proofs.TrailerRef as R
 use Rattle.rules.proofs.TrailerRef.Laws as R′
+use Rattle.copy.specs.Onto.{onto}
 use Rattle.listing.proofs.Listing as O
 use Rattle.listing.proofs.Listing.Laws as O′
 use Rattle.planning.proofs.Scope as Sc

@@ -9,7 +9,7 @@ use borrow.Rule.Slice.PartMut.{putMid}
 use lib.ListN.{length, take, drop, set, length-append, length-drop, take-append-drop, drop-of-length-le}
 use lib.Seq.{paste, drop-append-add, drop-drop, drop-set-lt, length-take-le, take-at, take-length, take-suc-set}
 use Rattle.rules.proofs.Parts.{rest}
-use Rattle.listing.specs.Turns.{onto}
+use Rattle.copy.specs.Onto.{onto}
 
 pub onto-nil : {A : Type 0} (i : ℕ) (d : List A) → onto i [] d ≡ d
 onto-nil i d = rw (add-zero i) (take-append-drop i d)

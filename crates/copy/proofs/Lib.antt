@@ -1,0 +1,2 @@
+-- Laws of a list written over another.
+pub mod Onto

@@ -1,0 +1,2 @@
+-- A list written over another.
+pub mod Onto
