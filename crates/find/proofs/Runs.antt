@@ -136,13 +136,3 @@ pub feeds-run : (k : ℕ) (s : List ℕ) (i end : ℕ) → i + k ≤ end
 feeds-run k s i end h =
     let left : end - i - k ≡ end - (i + k) = omega arith in
     rw (left, drop-drop k i s) at (feeds-split (drop i s) k (end - i) (omega arith))
-
--- a count of LFs tells whether there is one
-pub count-tells : (s : List ℕ) {n : ℕ} → n ≡ lineFeeds s → (n ≡ 0 → any isLF s ≡ false) × ((n ≡ 0 → ⊥) → any isLF s ≡ true)
-count-tells [] e = (λ z. refl, λ z. absurd (z e))
-count-tells (x ∷ s) {n} e = by (isLF x) e (count-tells s refl)
-  where
-    by : (b : Bool) → n ≡ (if b then 1 else 0) + lineFeeds s → (lineFeeds s ≡ 0 → any isLF s ≡ false) × ((lineFeeds s ≡ 0 → ⊥) → any isLF s ≡ true)
-        → (n ≡ 0 → (b || any isLF s) ≡ false) × ((n ≡ 0 → ⊥) → (b || any isLF s) ≡ true)
-    by true e r = (λ z. absurd (omega arith), λ z. refl)
-    by false e r = (λ z. r .0 (omega arith), λ z. r .1 (λ w. z (omega arith)))

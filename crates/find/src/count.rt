@@ -8,7 +8,7 @@ ghost use Rattle.rules.specs.Number.{lineFeeds};
 const RUN: usize = 128;
 
 // How many LFs are in a run.
-pub fn count_run(run: &[u8]) -> u8
+fn count_run(run: &[u8]) -> u8
     requires { ⌜ length (now run) ≤ 128 ⌝ }
     ensures { λ r. ⌜ r ≡ lineFeeds (now (run .entry)) ⌝ }
 {

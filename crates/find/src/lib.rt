@@ -1,6 +1,6 @@
 // The search for an LF, forward and backward. An LF among the next two bytes is told at once. Then whole runs without one are passed over: a
-// run is read to its end, LF or not, so that the compiler reads all of it at once. Where the first 128 bytes have none, the blocks of 128 behind
-// them in which none is counted are passed over too, and the runs go on from there. Where in a run the LF stands is told by its two words. Less than
+// run is read to its end, LF or not, so that the compiler reads all of it at once. Where the first 256 bytes have none, the blocks of 256 behind
+// them that have none are passed over in the same way, and the runs go on from there. Where in a run the LF stands is told by its two words. Less than
 // a run is left at the end: the last 16 bytes are read as one run once more, and tell whether it has an LF.
 pub mod count;
 
@@ -12,7 +12,6 @@ ghost use lib.ListN.{length, take, drop};
 ghost use Rattle.rules.specs.Lists.{any};
 ghost use Rattle.word.specs.Word.{Bytes, each, flag, packed};
 ghost use Rattle.find.specs.Find.{behindLF, isLF, other, untilLF};
-use crate::count::count_run;
 use word::before_flag;
 use word::behind_flag;
 use word::word;
@@ -24,9 +23,9 @@ const RUN: usize = 16;
 const WORD: usize = 8;
 
 // How many bytes a block has.
-const BLOCK: usize = 128;
+const BLOCK: usize = 256;
 
-// Whether an LF is in a run.
+// Whether an LF is in a run, or in a block.
 fn has_lf(run: &[u8]) -> bool
     ensures { λ r. ⌜ r ≡ any isLF (now (run .entry)) ⌝ }
 {
@@ -89,12 +88,12 @@ fn until_lf_of_part(part: &[u8]) -> usize
 
 // Where the blocks without an LF at the front end: an LF is in the next one, or no whole block is left.
 fn past_blocks(s: &[u8]) -> usize
-    ensures { λ r. ⌜ (r + 128 ≤ length (now (s .entry)) → any isLF (take 128 (drop r (now (s .entry)))) ≡ true) ⌝ }
+    ensures { λ r. ⌜ (r + 256 ≤ length (now (s .entry)) → any isLF (take 256 (drop r (now (s .entry)))) ≡ true) ⌝ }
     ensures { λ r. ⌜ (r ≤ length (now (s .entry))) × (r + untilLF (drop r (now (s .entry))) ≡ untilLF (now (s .entry))) ⌝ }
 {
     let mut i = 0;
     while s.len() - i >= BLOCK {
-        if count_run(&s[i..i + BLOCK]) != 0 {
+        if has_lf(&s[i..i + BLOCK]) {
             return i;
         }
         i += BLOCK;
@@ -143,12 +142,12 @@ pub fn holds_lf(s: &[u8]) -> bool
 
 // Where the blocks without an LF at the end start: an LF is in the one before, or no whole block is left.
 fn before_blocks(s: &[u8]) -> usize
-    ensures { λ r. ⌜ (128 ≤ r → any isLF (take 128 (drop (r - 128) (now (s .entry)))) ≡ true) ⌝ }
+    ensures { λ r. ⌜ (256 ≤ r → any isLF (take 256 (drop (r - 256) (now (s .entry)))) ≡ true) ⌝ }
     ensures { λ r. ⌜ (r ≤ length (now (s .entry))) × (behindLF (now (s .entry)) r ≡ behindLF (now (s .entry)) (length (now (s .entry)))) ⌝ }
 {
     let mut i = s.len();
     while i >= BLOCK {
-        if count_run(&s[i - BLOCK..i]) != 0 {
+        if has_lf(&s[i - BLOCK..i]) {
             return i;
         }
         i -= BLOCK;

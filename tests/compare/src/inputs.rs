@@ -239,10 +239,11 @@ const EDGES: &[&[u8]] = &[
     b": ",
 ];
 
-/// The longest way to one of them: two blocks of 128 bytes, and more than a run.
-const FARTHEST: usize = 290;
+/// The longest way to one of them: two blocks of 256 bytes, and more than a run.
+const FARTHEST: usize = 546;
 
-/// Each of them at every place up to there: behind text that begins a message, before text that ends one, and before blanks.
+/// Each of them at every place up to there: behind text that begins a message, before text that ends one, and before blanks, with blank lines
+/// below them too.
 pub fn edges() -> Vec<Vec<u8>> {
     let mut out = Vec::new();
     for &edge in EDGES {
@@ -252,6 +253,7 @@ pub fn edges() -> Vec<Vec<u8>> {
             out.push([b"t\nu", edge, text, b"\n\nA: b"].concat());
             out.push([b"t\n\nA: b", edge, text].concat());
             out.push([b"t\n\nA: b", edge, blanks].concat());
+            out.push([b"t\n\nA: b", edge, blanks, b"\n\t\n"].concat());
         }
     }
     out

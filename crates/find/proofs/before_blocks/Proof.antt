@@ -1,11 +1,13 @@
 -- `find::before_blocks` meets its contract. The invariant: a search back from `i` finds what one from the end finds. Assumes nothing.
-use mathlib.Core.Path.{_≡_, _∙_}
+use mathlib.Core.Bool.{false}
+use mathlib.Core.Path.{_≡_, sym, _∙_}
 use Prim.Native.Nat.{_+_, _-_, _≤_}
 use native.Mathlib.Omega.{arith}
 use borrow.Author.Needs.{needs}
 use lib.ListN.{length, take, drop}
-use Rattle.find.specs.Find.{behindLF}
-use Rattle.find.proofs.Runs.{before-run, count-tells}
+use Rattle.rules.specs.Lists.{any}
+use Rattle.find.specs.Find.{behindLF, isLF}
+use Rattle.find.proofs.Runs.{before-run}
 use Rattle.find.proofs.before_blocks.Statement.{statement}
 use Rattle.find.proofs.before_blocks.Tie as tie
 
@@ -18,24 +20,24 @@ abbrev μ-loop : tie.MeasureT-loop
 loop-holds : tie.Need-loop-holds Inv-loop μ-loop
 loop-holds c = search needs
 
-sub-count-run : tie.Need-sub-count-run Inv-loop μ-loop
-sub-count-run c = search needs
+sub-has-lf : tie.Need-sub-has-lf Inv-loop μ-loop
+sub-has-lf c = search needs
 
-part-count-run-start : tie.Need-part-count-run-start Inv-loop μ-loop
-part-count-run-start c = search needs
+part-has-lf-start : tie.Need-part-has-lf-start Inv-loop μ-loop
+part-has-lf-start c = search needs
 
-part-count-run-end : tie.Need-part-count-run-end Inv-loop μ-loop
-part-count-run-end c = search needs
+part-has-lf-end : tie.Need-part-has-lf-end Inv-loop μ-loop
+part-has-lf-end c = search needs
 
-count-run-requires : tie.Need-count-run-requires Inv-loop μ-loop
-count-run-requires c κs = search needs
+has-lf-requires : tie.Need-has-lf-requires Inv-loop μ-loop
+has-lf-requires c κs = search needs
 
 returns : tie.Need-returns Inv-loop μ-loop
 returns c =
     let r = c .before in let l = r .before .before .before in let s = l .before .before .args .s .now in
     let i = l .loop .i in
-    let size : i - (i - 128) ≡ 128 = omega arith in
-    (λ h. count-tells (take 128 (drop (i - 128) s)) (rw size at (r .count-run .ensures)) .1 (c .if1 .taken), l .loop .inv)
+    let size : i - (i - 256) ≡ 256 = omega arith in
+    (λ h. rw size at (sym (r .has-lf .ensures) ∙ c .if1 .taken), l .loop .inv)
 
 loop-less : tie.Need-loop-less Inv-loop μ-loop
 loop-less c = search needs
@@ -44,10 +46,10 @@ loop-again : tie.Need-loop-again Inv-loop μ-loop
 loop-again c =
     let r = c .before in let l = r .before .before .before in let s = l .before .before .args .s .now in
     let i = l .loop .i in
-    let size : i - (i - 128) ≡ 128 = omega arith in
-    let end : i - 128 + 128 ≡ i = omega arith in
-    let none = count-tells (take 128 (drop (i - 128) s)) (rw size at (r .count-run .ensures)) .0 (c .if1 .left) in
-    (omega arith, (rw end at (before-run 128 s (i - 128) (omega arith) none)) ∙ l .loop .inv .1)
+    let size : i - (i - 256) ≡ 256 = omega arith in
+    let end : i - 256 + 256 ≡ i = omega arith in
+    let none : any isLF (take 256 (drop (i - 256) s)) ≡ false = rw size at (sym (r .has-lf .ensures) ∙ c .if1 .left) in
+    (omega arith, (rw end at (before-run 256 s (i - 256) (omega arith) none)) ∙ l .loop .inv .1)
 
 returns-2 : tie.Need-returns-2 Inv-loop μ-loop
 returns-2 c = (λ h. absurd (omega (arith, c .loop-test .left)), c .before .loop .inv)
@@ -59,10 +61,10 @@ before-blocks-spec =
     Inv-loop
     μ-loop
     loop-holds
-    sub-count-run
-    part-count-run-start
-    part-count-run-end
-    count-run-requires
+    sub-has-lf
+    part-has-lf-start
+    part-has-lf-end
+    has-lf-requires
     returns
     loop-less
     loop-again

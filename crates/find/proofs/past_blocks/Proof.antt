@@ -1,11 +1,13 @@
 -- `find::past_blocks` meets its contract. The invariant: a search from `i` on finds what one from the front finds. Assumes nothing.
-use mathlib.Core.Path.{_≡_}
+use mathlib.Core.Bool.{false}
+use mathlib.Core.Path.{_≡_, sym, _∙_}
 use Prim.Native.Nat.{_+_, _-_, _≤_}
 use native.Mathlib.Omega.{arith}
 use borrow.Author.Needs.{needs}
 use lib.ListN.{length, take, drop}
-use Rattle.find.specs.Find.{untilLF}
-use Rattle.find.proofs.Runs.{count-tells, past-run}
+use Rattle.rules.specs.Lists.{any}
+use Rattle.find.specs.Find.{isLF, untilLF}
+use Rattle.find.proofs.Runs.{past-run}
 use Rattle.find.proofs.past_blocks.Statement.{statement}
 use Rattle.find.proofs.past_blocks.Tie as tie
 
@@ -21,27 +23,27 @@ loop-holds c = search needs
 sub-loop : tie.Need-sub-loop Inv-loop μ-loop
 sub-loop c = search needs
 
-add-count-run : tie.Need-add-count-run Inv-loop μ-loop
-add-count-run c = search needs
+add-has-lf : tie.Need-add-has-lf Inv-loop μ-loop
+add-has-lf c = search needs
 
-sub-count-run : tie.Need-sub-count-run Inv-loop μ-loop
-sub-count-run c = search needs
+sub-has-lf : tie.Need-sub-has-lf Inv-loop μ-loop
+sub-has-lf c = search needs
 
-part-count-run-start : tie.Need-part-count-run-start Inv-loop μ-loop
-part-count-run-start c = search needs
+part-has-lf-start : tie.Need-part-has-lf-start Inv-loop μ-loop
+part-has-lf-start c = search needs
 
-part-count-run-end : tie.Need-part-count-run-end Inv-loop μ-loop
-part-count-run-end c = search needs
+part-has-lf-end : tie.Need-part-has-lf-end Inv-loop μ-loop
+part-has-lf-end c = search needs
 
-count-run-requires : tie.Need-count-run-requires Inv-loop μ-loop
-count-run-requires c κs = search needs
+has-lf-requires : tie.Need-has-lf-requires Inv-loop μ-loop
+has-lf-requires c κs = search needs
 
 returns : tie.Need-returns Inv-loop μ-loop
 returns c =
     let r = c .before in let l = r .before .before .before in let s = l .before .before .args .s .now in
     let i = l .loop .i in
-    let size : i + 128 - i ≡ 128 = omega arith in
-    (λ h. count-tells (take 128 (drop i s)) (rw size at (r .count-run .ensures)) .1 (c .if1 .taken), l .loop .inv)
+    let size : i + 256 - i ≡ 256 = omega arith in
+    (λ h. rw size at (sym (r .has-lf .ensures) ∙ c .if1 .taken), l .loop .inv)
 
 add-i : tie.Need-add-i Inv-loop μ-loop
 add-i c = search needs
@@ -53,9 +55,9 @@ loop-again : tie.Need-loop-again Inv-loop μ-loop
 loop-again c =
     let r = c .before in let l = r .before .before .before in let s = l .before .before .args .s .now in
     let i = l .loop .i in
-    let size : i + 128 - i ≡ 128 = omega arith in
-    let none = count-tells (take 128 (drop i s)) (rw size at (r .count-run .ensures)) .0 (c .if1 .left) in
-    omega (arith, past-run 128 s i (omega arith) none)
+    let size : i + 256 - i ≡ 256 = omega arith in
+    let none : any isLF (take 256 (drop i s)) ≡ false = rw size at (sym (r .has-lf .ensures) ∙ c .if1 .left) in
+    omega (arith, past-run 256 s i (omega arith) none)
 
 returns-2 : tie.Need-returns-2 Inv-loop μ-loop
 returns-2 c = (λ h. absurd (omega (arith, c .loop-test .left)), c .before .loop .inv)
@@ -68,11 +70,11 @@ past-blocks-spec =
     μ-loop
     loop-holds
     sub-loop
-    add-count-run
-    sub-count-run
-    part-count-run-start
-    part-count-run-end
-    count-run-requires
+    add-has-lf
+    sub-has-lf
+    part-has-lf-start
+    part-has-lf-end
+    has-lf-requires
     returns
     add-i
     loop-less
