@@ -1,5 +1,5 @@
 -- The last non-blank line holds the last byte that is not blank, and where the line starts does not change how it ended. Assumes nothing.
-use mathlib.Core.Bool.{Bool, true, false, false≢true, and-true, not, _&&_}
+use mathlib.Core.Bool.{Bool, true, false, false≢true, and-true, not}
 use mathlib.Core.List.{List, [], _∷_}
 use mathlib.Core.Option.{Option, none, some}
 use mathlib.Core.Path.{_≡_, refl, sym, ap, _∙_}
@@ -18,6 +18,7 @@ use Rattle.text.proofs.ByLines.{line-some, line-then}
 use Rattle.text.proofs.Lines.{blank-all}
 use Rattle.text.specs.Lines.{firstLength}
 use Rattle.paragraph.specs.Solid.{SolidLen}
+use Rattle.paragraph.proofs.Blanks.{drop-blank, none-blank}
 use Rattle.paragraph.proofs.Upward.{part-is}
 
 -- a line by its bytes
@@ -26,35 +27,6 @@ solid-is l b e = ap not (blank-all l ∙ e)
 
 none≢some : {e : Ending} → some e ≡ none → ⊥
 none≢some {e} q = let z : _≡_ {A = ℕ} 0 1 = cc in absurd (omega arith)
-
-both : (x y : Bool) → x && y ≡ true → (x ≡ true) × (y ≡ true)
-both true y e = (refl, e)
-both false y e = absurd (false≢true e)
-
--- ---- all blank
-
-none-blank : (s : List ℕ) → all blankByte s ≡ true → lastEnding (lines s) ≡ none
-none-blank [] e = refl
-none-blank (c ∷ s) e = by (eqb c LF) (lines s) (none-blank s (split .1))
-  where
-    split : (blankByte c ≡ true) × (all blankByte s ≡ true)
-    split = both (blankByte c) (all blankByte s) e
-
-    one : solid (c ∷ []) ≡ false
-    one = solid-is (c ∷ []) true (rw (split .0))
-
-    joined : (l : Line) (o : Option Ending) → endingUnder l o ≡ none → endingUnder (c ∷ l) o ≡ none
-    joined l (some x) h = absurd (none≢some h)
-    joined l none h = test (all blankByte l) refl h
-      where
-        test : (b : Bool) → all blankByte l ≡ b → (if solid l then some (ending l) else none) ≡ none → (if solid (c ∷ l) then some (ending (c ∷ l)) else none) ≡ none
-        test true q h = rw (solid-is (c ∷ l) true (rw (split .0, q)))
-        test false q h = absurd (none≢some (rw (solid-is l false q) at h))
-
-    by : (b : Bool) (ls : List Line) → lastEnding ls ≡ none → lastEnding (before b c ls) ≡ none
-    by true ls h = rw (h, one)
-    by false [] h = rw one
-    by false (l ∷ ls) h = joined l (lastEnding ls) h
 
 -- ---- a byte in front
 
@@ -94,9 +66,6 @@ dropped (suc k) [] e h = h
 dropped (suc k) (c ∷ s) e h = front c s e (dropped k s e h)
 
 -- ---- the line that holds the last byte that is not blank
-
-drop-blank : (k : ℕ) (s : List ℕ) → all blankByte s ≡ true → all blankByte (drop k s) ≡ true
-drop-blank k s e = both (all blankByte (take k s)) (all blankByte (drop k s)) (sym (blank-parts k s) ∙ e) .1
 
 front-solid : (k : ℕ) (s : List ℕ) → all blankByte (drop k s) ≡ true → all blankByte s ≡ false → all blankByte (take k s) ≡ false
 front-solid k s e q = sym (blank-parts k s ∙ rw e (and-true (all blankByte (take k s)))) ∙ q

@@ -8,7 +8,7 @@ use Prim.Native.Nat.{ℕ, zero, suc, _+_, _-_, _≤_, _<_}
 use native.Mathlib.Omega.{arith}
 use lib.Dec.{T, eqb→eq}
 use lib.ListN.{length, take, drop, length-append, length-drop, take-append-drop}
-use lib.Seq.{drop-at, drop-length, length-take-le, take-add, take-length, take-take}
+use lib.Seq.{drop-at, length-take-le, take-add, take-take}
 use Rattle.rules.specs.Bytes.{CR, LF, blankByte}
 use Rattle.rules.specs.Lines.{Line, LineStart, lines, text, without}
 use Rattle.rules.specs.Lists.{all, join}
@@ -16,10 +16,13 @@ use Rattle.rules.specs.Paragraph.{solid, Body, put, parse}
 use Rattle.rules.proofs.Lines.{join-lines, lines-from}
 use Rattle.rules.proofs.Lists.{cut-unique}
 use Rattle.find.specs.Find.{behindLF}
+use Rattle.find.proofs.Words.{behind-taken}
 use Rattle.text.specs.Lines.{lineStart}
 use Rattle.text.proofs.Lines.{behind-le, last-line, line-start-before, line-start-starts, blank-all}
 use Rattle.paragraph.specs.declared.Scan.{Scan}
 use Rattle.paragraph.specs.Scan.{counts, counted, scanned, paragraph, lastParagraph, textEnd, endAbove}
+use Rattle.paragraph.specs.Solid.{BlankFrom}
+use Rattle.paragraph.proofs.Blanks.{blank-tree}
 use Rattle.paragraph.proofs.Scanned.{Open, open-put, blank-put, counted-put, closed, unclosed, drop-last, text-end}
 
 -- `&s[start..end]`
@@ -37,6 +40,10 @@ part-is s start end h l =
 -- a line starts at `end`, or the body ends there
 abbrev Cut : List ℕ → ℕ → Type 0
 Cut body end = lines body ≡ lines (take end body) ++ lines (drop end body)
+
+-- what stands behind a line does not matter
+pub start-taken : (body : List ℕ) (end : ℕ) → lineStart (take end body) end ≡ lineStart body end
+start-taken body end = behind-taken body end (end - 1) (omega arith)
 
 module _ (body : List ℕ) (start end : ℕ) (s : start ≡ lineStart body end) where
   pub start-le : start ≤ end
@@ -135,10 +142,11 @@ pub record At (body : List ℕ) (end : ℕ) (scan : Scan) : Type 0 where
   pub below : Open (parse (lines (drop end body)))
   pub seen : scan ≡ counted (parse (lines (drop end body)))
 
-pub at-end : (body : List ℕ) → At body (length body) (counts false false 0 0 0)
-at-end body =
-    let none : drop (length body) body ≡ [] = drop-length body in
-    record { inside = omega arith; cut = rw (none, take-length, append-nil); below = rw none tt; seen = rw none }
+-- nothing but blank lines has been seen
+pub at-blanks : (body : List ℕ) (end : ℕ) → BlankFrom body end → At body end (counts false false 0 0 0)
+at-blanks body end b =
+    let tree = blank-tree (drop end body) (b .2) in
+    record { inside = b .0; cut = b .1; below = rw tree tt; seen = rw tree }
 
 module _ (body : List ℕ) (start end : ℕ) (s : start ≡ lineStart body end) (z : 0 < end) (scan : Scan) (a : At body end scan) where
   abbrev line : Line

@@ -6,7 +6,7 @@ ghost use Rattle.rules.specs.Lines.{lines};
 ghost use Rattle.rules.specs.Lists.{starts};
 ghost use Rattle.rules.specs.Paragraph.{accepts, blockStart, cherryPicked, endingBelow, parse, recognised, signedOff};
 ghost use Rattle.paragraph.specs.Scan.{endAbove, lastParagraph, scanned};
-ghost use Rattle.paragraph.specs.Solid.{SolidLen};
+ghost use Rattle.paragraph.specs.Solid.{BlankFrom, SolidLen};
 use rules::Ending;
 use text::fixed::same_word;
 use text::line::before_blanks;
@@ -96,6 +96,25 @@ fn scan_line(mut scan: Scan, line: &[u8]) -> Scan
     scan
 }
 
+// Where the scan begins: at the body's end, or above the blank lines that a body ends with, which count for nothing. Most bodies have none, which
+// the last byte but one tells.
+fn scan_end(body: &[u8]) -> usize
+    ensures { λ r. ⌜ BlankFrom (now (body .entry)) r ⌝ }
+{
+    let end = body.len();
+    if end < 2 {
+        return end;
+    }
+    if !is_ascii_whitespace(body[end - 2]) {
+        return end;
+    }
+    let solid = solid_len(body);
+    if solid == 0 {
+        return 0;
+    }
+    solid + line_len(&body[solid..])
+}
+
 // The last paragraph: from the body's end upwards, line by line, to the blank line above it.
 pub fn last_paragraph(body: &[u8]) -> Paragraph
     ensures { λ r. ⌜ r ≡ lastParagraph (parse (lines (now (body .entry)))) ⌝ }
@@ -107,9 +126,9 @@ pub fn last_paragraph(body: &[u8]) -> Paragraph
         non_trailer_lines: 0,
         possible_continuation_lines: 0,
     };
-    let mut end = body.len();
+    let mut end = scan_end(body);
     while end > 0 {
-        let start = line_start(body, end);
+        let start = line_start(&body[..end], end);
         let line = &body[start..end];
         if is_blank_line(line) {
             if scan.saw_non_blank_line {

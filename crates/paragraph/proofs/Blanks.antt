@@ -1,0 +1,90 @@
+-- Blank lines at a body's end: a body may be cut where a line of its rest ends, and blank lines below the cut have an empty tree and no
+-- ending. Assumes nothing.
+use mathlib.Core.Bool.{Bool, true, false, false≢true, _&&_}
+use mathlib.Core.List.{List, [], _∷_, _++_, append-nil}
+use mathlib.Core.Option.{none}
+use mathlib.Core.Path.{_≡_, refl, sym, ap, _∙_}
+use Prim.Native.Nat.{ℕ, _+_, _-_, _≤_, _<_}
+use native.Mathlib.Omega.{arith}
+use lib.Dec.{T, eqb}
+use lib.ListN.{length, take, drop, length-drop, take-append-drop}
+use lib.Seq.{drop-at, drop-drop, drop-length, take-add, take-append-seam, take-length}
+use Rattle.rules.specs.Bytes.{LF, blankByte}
+use Rattle.rules.specs.Lines.{Line, before, lines}
+use Rattle.rules.specs.Lists.{all, filled, join}
+use Rattle.rules.specs.Paragraph.{empty, lastEnding, parse}
+use Rattle.rules.proofs.Lines.{join-lines, lines-prefix}
+use Rattle.rules.proofs.Parts.{rest}
+use Rattle.text.proofs.Blanks.{blank-parts}
+use Rattle.text.proofs.Lines.{blank-all, first-line, first-within}
+use Rattle.text.specs.Lines.{firstLength}
+use Rattle.paragraph.specs.Solid.{BlankFrom}
+
+-- ---- blank lines
+
+both : (x y : Bool) → x && y ≡ true → (x ≡ true) × (y ≡ true)
+both true y e = (refl, e)
+both false y e = absurd (false≢true e)
+
+pub drop-blank : (k : ℕ) (s : List ℕ) → all blankByte s ≡ true → all blankByte (drop k s) ≡ true
+drop-blank k s e = both (all blankByte (take k s)) (all blankByte (drop k s)) (sym (blank-parts k s) ∙ e) .1
+
+-- the first of them, and those below
+first-blank : (l : Line) (ls : List Line) → all blankByte (l ++ join ls) ≡ true → (all blankByte l ≡ true) × (all blankByte (join ls) ≡ true)
+first-blank l ls e =
+    both (all blankByte l) (all blankByte (join ls))
+    (rw (take-append-seam l (join ls), drop-at l (join ls) (length l) refl) at (sym (blank-parts (length l) (l ++ join ls)) ∙ e))
+
+lines-tree : (ls : List Line) → all blankByte (join ls) ≡ true → parse ls ≡ empty ls
+lines-tree [] e = refl
+lines-tree (l ∷ ls) e = let (one, more) = first-blank l ls e in rw (blank-all l ∙ one, lines-tree ls more)
+
+lines-none : (ls : List Line) → all blankByte (join ls) ≡ true → lastEnding ls ≡ none
+lines-none [] e = refl
+lines-none (l ∷ ls) e = let (one, more) = first-blank l ls e in rw (lines-none ls more, blank-all l ∙ one)
+
+pub blank-tree : (s : List ℕ) → all blankByte s ≡ true → parse (lines s) ≡ empty (lines s)
+blank-tree s e = lines-tree (lines s) (rw (join-lines s) e)
+
+pub none-blank : (s : List ℕ) → all blankByte s ≡ true → lastEnding (lines s) ≡ none
+none-blank s e = lines-none (lines s) (rw (join-lines s) e)
+
+-- ---- the first line of what is behind a place ends where a line of the whole ends
+
+some-lines : (b : Bool) (c : ℕ) (ls : List Line) → T (filled (before b c ls))
+some-lines true c ls = tt
+some-lines false c [] = tt
+some-lines false c (l ∷ ls) = tt
+
+in-front : (b : Bool) (c : ℕ) (ls ms : List Line) → T (filled ls) → before b c (ls ++ ms) ≡ before b c ls ++ ms
+in-front true c ls ms f = refl
+in-front false c [] ms f = absurd f
+in-front false c (l ∷ ls) ms f = refl
+
+-- behind any text `a`
+cut-behind : (a t : List ℕ) → 0 < length t →
+    let k = firstLength (lines t) in (lines (a ++ t) ≡ lines (a ++ take k t) ++ lines (drop k t)) × T (filled (lines (a ++ take k t)))
+cut-behind [] t z =
+    let first = first-line t z in
+    let alone = rw append-nil at (lines-prefix t (take (firstLength (lines t)) t ∷ []) (lines (drop (firstLength (lines t)) t)) first) in
+    (first ∙ rw alone, rw alone tt)
+cut-behind (c ∷ a) t z =
+    let k : ℕ = firstLength (lines t) in
+    let (cut, some) = cut-behind a t z in
+    (ap (before (eqb c LF) c) cut ∙ in-front (eqb c LF) c (lines (a ++ take k t)) (lines (drop k t)) some, some-lines (eqb c LF) c (lines (a ++ take k t)))
+
+cut : (a t : List ℕ) → let k = firstLength (lines t) in lines (a ++ t) ≡ lines (a ++ take k t) ++ lines (drop k t)
+cut a [] = sym (append-nil (lines (a ++ [])))
+cut a (c ∷ t) = cut-behind a (c ∷ t) (omega arith) .0
+
+-- ---- blank from a line's end on
+
+pub blank-end : (body : List ℕ) → BlankFrom body (length body)
+blank-end body = (omega arith, rw (drop-length, take-length, append-nil), rw drop-length)
+
+pub blank-below : (body : List ℕ) (n k : ℕ) → all blankByte (drop n body) ≡ true → n ≤ length body
+    → k ≡ firstLength (lines (take (length body - n) (drop n body))) → BlankFrom body (n + k)
+blank-below body n k e h f =
+    let first : k ≡ firstLength (lines (drop n body)) = rw (rest body n) at f in
+    let whole = rw (take-append-drop n body, ← first, drop-drop k n body) at (cut (take n body) (drop n body)) in
+    (omega (arith, first, first-within (drop n body), length-drop n body), rw (take-add n k body) whole, rw (← drop-drop k n body) (drop-blank k (drop n body) e))
