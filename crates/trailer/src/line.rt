@@ -170,14 +170,15 @@ fn folds_len(rest: &[u8]) -> usize
     len
 }
 
-// The trailer whose first line is the first of `cursor`: that line with every indented, non-blank line directly after it.
+// The trailer whose first line is the first of `cursor`: that line with every indented, non-blank line directly after it. `&cursor[0..]` is all of
+// it, as a slice of this function's own: one handed on as it came would be copied, which waits for where it was stored.
 pub fn trailer_at_start(cursor: &[u8]) -> TrailerAtStart
     ensures { λ r. ⌜ r ≡ atStart (lines (now (cursor .entry))) ⌝ }
 {
     let TrailerLine::At {
         token_end,
         value_start,
-    } = parse_trailer_line(cursor)
+    } = parse_trailer_line(&cursor[0..])
     else {
         return TrailerAtStart::NoTrailer;
     };
