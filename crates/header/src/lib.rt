@@ -181,6 +181,7 @@ fn other_turn(name: &[u8], content: &[u8]) -> usize
     UNDER
 }
 
+// Above `UNDER` a phase is the length of the identifiers.
 pub fn named_turn(phase: usize, name: &[u8], content: &[u8]) -> usize
     requires { ⌜ (phase ≡ 4 → ⊥) × (phase ≡ 5 → ⊥) ⌝ }
     ensures { λ r. ⌜ turnOf r ≡ namedLine (phaseOf phase) (now (name .entry)) (now (content .entry)) ⌝ }
@@ -191,11 +192,8 @@ pub fn named_turn(phase: usize, name: &[u8], content: &[u8]) -> usize
     if phase == COMMITTER {
         return committer_turn(name, content);
     }
-    if phase == OTHERS {
-        return other_turn(name, content);
+    if phase > UNDER {
+        return parent_turn(phase, name, content);
     }
-    if phase == UNDER {
-        return other_turn(name, content);
-    }
-    parent_turn(phase, name, content)
+    other_turn(name, content)
 }

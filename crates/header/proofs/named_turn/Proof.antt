@@ -1,8 +1,27 @@
 -- `header::named_turn` meets its contract. Assumes nothing.
+use mathlib.Core.Bool.{Bool, true, false, false≢true}
+use mathlib.Core.List.{List}
+use mathlib.Core.Path.{_≡_, refl, sym, _∙_}
+use Prim.Native.Nat.{ℕ, _≤_}
+use native.Mathlib.Omega.{arith}
 use borrow.Author.Needs.{needs}
-use borrow.Author.Tests.{ne-eqb}
+use borrow.Author.Tests.{eq-eqb, ne-eqb}
+use lib.Dec.{eqb, eqb→eq}
+use Rattle.commit.specs.Reader.{atOthers, namedLine}
+use Rattle.header.specs.Turns.{phaseOf}
 use Rattle.header.proofs.named_turn.Statement.{statement}
 use Rattle.header.proofs.named_turn.Tie as tie
+
+-- where another line may come, a line that continues the one above may come or not: a line with a name does the same
+others : (p : ℕ) (n t : List ℕ) → (p ≡ 0 → ⊥) → (p ≡ 1 → ⊥) → p ≤ 3 → namedLine atOthers n t ≡ namedLine (phaseOf p) n t
+others p n t x y h = by (eqb p 2) refl
+  where
+    by : (b : Bool) → eqb p 2 ≡ b → namedLine atOthers n t ≡ namedLine (phaseOf p) n t
+    by true e = rw (eqb→eq p 2 (rw e tt))
+    by false e =
+        let z : p ≡ 2 → ⊥ = λ q. false≢true (sym e ∙ eq-eqb p 2 q) in
+        let three : p ≡ 3 = omega (arith, x, y, z) in
+        rw three
 
 tree-turn-requires : tie.Need-tree-turn-requires
 tree-turn-requires c κs = search needs
@@ -16,23 +35,23 @@ committer-turn-requires c κs = search needs
 returns-2 : tie.Need-returns-2
 returns-2 c = rw (c .before .if2 .taken) (c .committer-turn .ensures)
 
-other-turn-requires : tie.Need-other-turn-requires
-other-turn-requires c κs = search needs
-
-returns-3 : tie.Need-returns-3
-returns-3 c = rw (c .before .if3 .taken) (c .other-turn .ensures)
-
-other-turn-requires-2 : tie.Need-other-turn-requires-2
-other-turn-requires-2 c κs = search needs
-
-returns-4 : tie.Need-returns-4
-returns-4 c = rw (c .before .if4 .taken) (c .other-turn2 .ensures)
-
 parent-turn-requires : tie.Need-parent-turn-requires
 parent-turn-requires c κs = search needs
 
-returns-5 : tie.Need-returns-5
-returns-5 c = rw (ne-eqb _ _ (c .before .before .before .before .if1 .left), ne-eqb _ _ (c .before .before .before .if2 .left), ne-eqb _ _ (c .before .before .if3 .left), ne-eqb _ _ (c .before .if4 .left)) (c .parent-turn .ensures)
+returns-3 : tie.Need-returns-3
+returns-3 c =
+    let d = c .before in
+    let p = d .before .before .before .before .before .args .phase in
+    rw (ne-eqb p 0 (λ e. omega arith), ne-eqb p 1 (λ e. omega arith), ne-eqb p 2 (λ e. omega arith), ne-eqb p 3 (λ e. omega arith)) (c .parent-turn .ensures)
+
+other-turn-requires : tie.Need-other-turn-requires
+other-turn-requires c κs = search needs
+
+returns-4 : tie.Need-returns-4
+returns-4 c =
+    let d = c .before in
+    let a = d .before .before .before .before .before .args in
+    c .other-turn .ensures ∙ others (a .phase) (a .name .now) (a .content .now) (d .before .before .if1 .left) (d .before .if2 .left) (omega arith)
 
 pub named-turn-spec : {M : Type 1} → statement M
 named-turn-spec =
@@ -42,9 +61,7 @@ named-turn-spec =
     returns
     committer-turn-requires
     returns-2
-    other-turn-requires
-    returns-3
-    other-turn-requires-2
-    returns-4
     parent-turn-requires
-    returns-5)
+    returns-3
+    other-turn-requires
+    returns-4)
