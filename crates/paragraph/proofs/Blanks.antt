@@ -3,17 +3,16 @@
 use mathlib.Core.Bool.{Bool, true, false, false≢true, _&&_}
 use mathlib.Core.List.{List, [], _∷_, _++_, append-nil}
 use mathlib.Core.Option.{none}
-use mathlib.Core.Path.{_≡_, refl, sym, ap, _∙_}
-use Prim.Native.Nat.{ℕ, _+_, _-_, _≤_, _<_}
+use mathlib.Core.Path.{_≡_, refl, sym, _∙_}
+use Prim.Native.Nat.{ℕ, _+_, _-_, _≤_}
 use native.Mathlib.Omega.{arith}
-use lib.Dec.{T, eqb}
 use lib.ListN.{length, take, drop, length-drop, take-append-drop}
 use lib.Seq.{drop-at, drop-drop, drop-length, take-add, take-append-seam, take-length}
-use Rattle.rules.specs.Bytes.{LF, blankByte}
-use Rattle.rules.specs.Lines.{Line, before, lines}
-use Rattle.rules.specs.Lists.{all, filled, join}
+use Rattle.rules.specs.Bytes.{blankByte}
+use Rattle.rules.specs.Lines.{Line, lines}
+use Rattle.rules.specs.Lists.{all, join}
 use Rattle.rules.specs.Paragraph.{empty, lastEnding, parse}
-use Rattle.rules.proofs.Lines.{join-lines, lines-prefix}
+use Rattle.rules.proofs.Lines.{join-lines, lines-behind}
 use Rattle.rules.proofs.Parts.{rest}
 use Rattle.text.proofs.Blanks.{blank-parts}
 use Rattle.text.proofs.Lines.{blank-all, first-line, first-within}
@@ -49,35 +48,12 @@ blank-tree s e = lines-tree (lines s) (rw (join-lines s) e)
 pub none-blank : (s : List ℕ) → all blankByte s ≡ true → lastEnding (lines s) ≡ none
 none-blank s e = lines-none (lines s) (rw (join-lines s) e)
 
--- ---- the first line of what is behind a place ends where a line of the whole ends
+-- ---- blank from a line's end on
 
-some-lines : (b : Bool) (c : ℕ) (ls : List Line) → T (filled (before b c ls))
-some-lines true c ls = tt
-some-lines false c [] = tt
-some-lines false c (l ∷ ls) = tt
-
-in-front : (b : Bool) (c : ℕ) (ls ms : List Line) → T (filled ls) → before b c (ls ++ ms) ≡ before b c ls ++ ms
-in-front true c ls ms f = refl
-in-front false c [] ms f = absurd f
-in-front false c (l ∷ ls) ms f = refl
-
--- behind any text `a`
-cut-behind : (a t : List ℕ) → 0 < length t →
-    let k = firstLength (lines t) in (lines (a ++ t) ≡ lines (a ++ take k t) ++ lines (drop k t)) × T (filled (lines (a ++ take k t)))
-cut-behind [] t z =
-    let first = first-line t z in
-    let alone = rw append-nil at (lines-prefix t (take (firstLength (lines t)) t ∷ []) (lines (drop (firstLength (lines t)) t)) first) in
-    (first ∙ rw alone, rw alone tt)
-cut-behind (c ∷ a) t z =
-    let k : ℕ = firstLength (lines t) in
-    let (cut, some) = cut-behind a t z in
-    (ap (before (eqb c LF) c) cut ∙ in-front (eqb c LF) c (lines (a ++ take k t)) (lines (drop k t)) some, some-lines (eqb c LF) c (lines (a ++ take k t)))
-
+-- behind the first line of the rest `t`
 cut : (a t : List ℕ) → let k = firstLength (lines t) in lines (a ++ t) ≡ lines (a ++ take k t) ++ lines (drop k t)
 cut a [] = sym (append-nil (lines (a ++ [])))
-cut a (c ∷ t) = cut-behind a (c ∷ t) (omega arith) .0
-
--- ---- blank from a line's end on
+cut a (c ∷ t) = lines-behind a (c ∷ t) _ _ (first-line (c ∷ t) (omega arith))
 
 pub blank-end : (body : List ℕ) → BlankFrom body (length body)
 blank-end body = (omega arith, rw (drop-length, take-length, append-nil), rw drop-length)

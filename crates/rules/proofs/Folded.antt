@@ -15,8 +15,8 @@ use Rattle.rules.specs.Lists.{if_then_else_, All, filled, join}
 use Rattle.rules.specs.Number.{lineFeeds}
 use Rattle.rules.specs.Trailer.{trailerLine, tokenIn, gapIn, valueIn, valueIsWritten}
 use Rattle.rules.proofs.Lines.{filled-lines}
-use Rattle.rules.proofs.Lists.{clash, filled-append, filled-some, is-false}
-use Rattle.rules.proofs.Number.{append-filled, feeds-and-lines, feeds-append}
+use Rattle.rules.proofs.Lists.{append-filled, clash, filled-append, filled-some, is-false}
+use Rattle.rules.proofs.Number.{feeds-and-lines, feeds-append}
 use Rattle.rules.proofs.Trailer.{trailer-line}
 
 -- ---- the raw value

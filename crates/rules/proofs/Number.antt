@@ -19,8 +19,9 @@ use Rattle.rules.specs.Title.{body, bodyStart}
 use Rattle.rules.specs.Trailer.{Trailer, trailer, trailerLine, placeOf, tokenOf, isOf, only, walk, walkFrom}
 use Rattle.rules.specs.declared.Cursor.{Cursor}
 use Rattle.rules.specs.declared.Kind.{Kind}
-use Rattle.rules.proofs.Blocks.{lines-filled, walks-agree}
-use Rattle.rules.proofs.Lines.{join-lines, lines-append, lines-suffix}
+use Rattle.rules.proofs.Blocks.{walks-agree}
+use Rattle.rules.proofs.Lines.{join-lines, lines-append, lines-filled, lines-suffix}
+use Rattle.rules.proofs.Lists.{append-filled}
 
 -- ---- LFs counted
 
@@ -48,10 +49,6 @@ feeds-split s from to h =
     ∙ feeds-append (take from s) (take (to - from) (drop from s))
 
 -- ---- LFs and lines
-
-pub append-filled : (x y : List ℕ) → T (filled y) → T (filled (x ++ y))
-append-filled [] y f = f
-append-filled (c ∷ x) y f = tt
 
 before-length : (b : Bool) (c : ℕ) (ls : List Line) → T (filled ls) → length (before b c ls) ≡ (if b then 1 else 0) + length ls
 before-length b c [] f = absurd f

@@ -14,6 +14,7 @@ use Rattle.rules.specs.Lines.{Line, before, lines}
 use Rattle.rules.specs.Lists.{any, filled}
 use Rattle.text.specs.Lines.{firstLength}
 use Rattle.text.proofs.Lines.{first-line-at, first-some, first-within}
+use Rattle.rules.proofs.Lines.{lines-filled}
 use Rattle.rules.proofs.Parts.{rest}
 
 module _ (s : List ℕ) (at n : ℕ) (h : at < length s) (e : n ≡ firstLength (lines (take (length s - at) (drop at s)))) where
@@ -40,11 +41,6 @@ module _ (s : List ℕ) (at n : ℕ) (h : at < length s) (e : n ≡ firstLength 
 
 -- ---- more lines than one: an LF stands before the last byte
 
-some-line : (b : Bool) (c : ℕ) (ls : List Line) → T (filled (before b c ls))
-some-line true c ls = tt
-some-line false c [] = tt
-some-line false c (l ∷ ls) = tt
-
 one-more : (b p : Bool) (c : ℕ) (ls : List Line) → T (filled ls) → ltb 1 (length ls) ≡ p → ltb 1 (length (before b c ls)) ≡ (b || p)
 one-more b p c [] f e = absurd f
 one-more true p c (l ∷ ls) f e = lt-ltb 1 (length ((c ∷ []) ∷ l ∷ ls)) (omega arith)
@@ -57,7 +53,7 @@ counted c [] = alone (eqb c LF)
     alone true = refl
     alone false = refl
 counted c (d ∷ s) =
-    one-more (eqb c LF) (any isLF (take (length s) (d ∷ s))) c (lines (d ∷ s)) (some-line (eqb d LF) d (lines s)) (counted d s)
+    one-more (eqb c LF) (any isLF (take (length s) (d ∷ s))) c (lines (d ∷ s)) (lines-filled (d ∷ s) tt) (counted d s)
 
 pub more-lines : (s : List ℕ) → (length s ≡ 0 → ⊥) → ltb 1 (length (lines s)) ≡ any isLF (take (length s - 1) s)
 more-lines [] n = absurd (n refl)
