@@ -9,13 +9,12 @@ use native.Mathlib.Omega.{arith}
 use lib.Dec.{eqb}
 use lib.ListN.{length, take, drop, getD, length-drop}
 use lib.Seq.{drop-cons, drop-drop}
-use mir.Val.{boolByte}
 use Rattle.rules.specs.Bytes.{LF, within}
 use Rattle.rules.specs.Lists.{if_then_else_, run}
 use Rattle.rules.proofs.Lists.{or-none}
 use Rattle.rules.proofs.Parts.{rest}
 use Rattle.find.specs.Find.{isLF, untilLF}
-use Rattle.summary.specs.Followed.{anyFollowed, countFollowed, followed, untilFollowed}
+use Rattle.summary.specs.Followed.{anyFollowed, followed, untilFollowed}
 
 module _ (low high : ℕ) where
   -- ---- a whole run without one is passed: its last byte is only looked at as the next one
@@ -53,15 +52,6 @@ module _ (low high : ℕ) where
       anyFollowed low high (drop i s) ≡ (followed low high (getD s i 0) (getD s (i + 1) 0) || anyFollowed low high (drop (i + 1) s))
   any-next s i h = rw (two-ahead s i h, next-ahead s i h)
 
-  pub count-next : (s : List ℕ) (i : ℕ) {b : Bool} → i + 1 < length s → b ≡ followed low high (getD s i 0) (getD s (i + 1) 0) →
-      (countFollowed low high (drop i s) ≡ boolByte b + countFollowed low high (drop (i + 1) s)) × (boolByte b ≤ 1)
-  count-next s i {b} h e = rw (two-ahead s i h, next-ahead s i h, ← e) (by b)
-    where
-      by : (b : Bool) → let n = countFollowed low high (getD s (i + 1) 0 ∷ drop (i + 1 + 1) s) in
-          ((if b then 1 else 0) + n ≡ boolByte b + n) × (boolByte b ≤ 1)
-      by true = (refl, omega arith)
-      by false = (refl, omega arith)
-
   pub here : (s : List ℕ) (i : ℕ) → i + 1 < length s → followed low high (getD s i 0) (getD s (i + 1) 0) ≡ true →
       untilFollowed low high (drop i s) ≡ 0
   here s i h e = rw (two-ahead s i h, e)
@@ -72,32 +62,16 @@ module _ (low high : ℕ) where
 
   -- ---- behind the last byte but one there is none
 
-  short : (s : List ℕ) → length s ≤ 1 →
-      (anyFollowed low high s ≡ false) × (untilFollowed low high s ≡ length s) × (countFollowed low high s ≡ 0)
-  short [] h = (refl, refl, refl)
-  short (c ∷ []) h = (refl, refl, refl)
+  short : (s : List ℕ) → length s ≤ 1 → (anyFollowed low high s ≡ false) × (untilFollowed low high s ≡ length s)
+  short [] h = (refl, refl)
+  short (c ∷ []) h = (refl, refl)
   short (c ∷ d ∷ s) h = absurd (omega arith)
 
   pub at-end : (s : List ℕ) (i : ℕ) → length s ≤ i + 1 → i ≤ length s →
       (anyFollowed low high (drop i s) ≡ false) × (i + untilFollowed low high (drop i s) ≡ length s)
   at-end s i h k =
-      let (none, all, uncounted) = short (drop i s) (omega (arith, length-drop i s)) in
+      let (none, all) = short (drop i s) (omega (arith, length-drop i s)) in
       (none, omega (arith, all, length-drop i s))
-
-  pub count-end : (s : List ℕ) (i : ℕ) → length s ≤ i + 1 → countFollowed low high (drop i s) ≡ 0
-  count-end s i h = short (drop i s) (omega (arith, length-drop i s)) .2
-
-  -- ---- none is there where none is counted
-
-  pub none-counted : (s : List ℕ) → countFollowed low high s ≡ 0 → anyFollowed low high s ≡ false
-  none-counted [] e = refl
-  none-counted (c ∷ []) e = refl
-  none-counted (c ∷ d ∷ s) e = by (followed low high c d) e (none-counted (d ∷ s))
-    where
-      by : (b : Bool) → (if b then 1 else 0) + countFollowed low high (d ∷ s) ≡ 0 →
-          (countFollowed low high (d ∷ s) ≡ 0 → anyFollowed low high (d ∷ s) ≡ false) → (b || anyFollowed low high (d ∷ s)) ≡ false
-      by true z more = absurd (omega arith)
-      by false z more = more (omega arith)
 
   -- ---- the search ends at the end at the latest
 

@@ -1,7 +1,7 @@
 -- Bytes that an LF directly follows: two LFs, where a summary stops, and a blank before an LF, which goes.
 use mathlib.Core.Bool.{Bool, false, _&&_, _||_}
 use mathlib.Core.List.{List, [], _∷_}
-use Prim.Native.Nat.{ℕ, suc, _+_}
+use Prim.Native.Nat.{ℕ, suc}
 use lib.Dec.{eqb}
 use Rattle.rules.specs.Bytes.{LF, within}
 use Rattle.rules.specs.Lists.{if_then_else_}
@@ -15,12 +15,6 @@ abbrev pub anyFollowed : ℕ → ℕ → List ℕ → Bool
 anyFollowed low high [] = false
 anyFollowed low high (c ∷ []) = false
 anyFollowed low high (c ∷ d ∷ s) = followed low high c d || anyFollowed low high (d ∷ s)
-
--- how many such bytes there are
-abbrev pub countFollowed : ℕ → ℕ → List ℕ → ℕ
-countFollowed low high [] = 0
-countFollowed low high (c ∷ []) = 0
-countFollowed low high (c ∷ d ∷ s) = (if followed low high c d then 1 else 0) + countFollowed low high (d ∷ s)
 
 -- how many bytes stand before the first one; all of them where there is none
 abbrev pub untilFollowed : ℕ → ℕ → List ℕ → ℕ

@@ -10,7 +10,7 @@ ghost use Rattle.rules.specs.Record.{fitted, writtenFound};
 ghost use Rattle.rules.specs.Summary.{added, dropBlanks, folded, pieces, spaced, many};
 ghost use Rattle.rules.specs.White.{trim};
 ghost use Rattle.find.specs.Find.{untilLF};
-ghost use Rattle.summary.specs.Followed.{anyFollowed, countFollowed, followed, untilFollowed};
+ghost use Rattle.summary.specs.Followed.{anyFollowed, followed, untilFollowed};
 ghost use Rattle.summary.specs.Put.{put};
 ghost use Rattle.summary.specs.Spaces.{spaceForLF, withSpaces};
 use copy::copy_at;
@@ -28,7 +28,7 @@ use white::trim_end;
 const RUN: usize = 16;
 
 // How many bytes of a block are looked at.
-const BLOCK: usize = 128;
+const BLOCK: usize = 96;
 
 // Whether a byte is from `low` to `high`, and the next one an LF.
 fn is_followed(byte: u8, next: u8, low: u8, high: u8) -> bool
@@ -50,28 +50,13 @@ fn has_followed(run: &[u8], low: u8, high: u8) -> bool
     found
 }
 
-// How many bytes of a block are from `low` to `high` and directly followed by an LF. A byte counts them, so that the compiler reads all of the
-// block at once.
-fn count_followed(block: &[u8], low: u8, high: u8) -> u8
-    requires { ⌜ length (now block) ≤ 129 ⌝ }
-    ensures { λ r. ⌜ r ≡ countFollowed low high (now (block .entry)) ⌝ }
-{
-    let mut count: u8 = 0;
-    let mut i = 0;
-    while block.len() - i > 1 {
-        count += is_followed(block[i], block[i + 1], low, high) as u8;
-        i += 1;
-    }
-    count
-}
-
 // Where the blocks at the front end that have no such byte.
 fn past_blocks(s: &[u8], low: u8, high: u8) -> usize
     ensures { λ r. ⌜ (r ≤ length (now (s .entry))) × (r + untilFollowed low high (drop r (now (s .entry))) ≡ untilFollowed low high (now (s .entry))) ⌝ }
 {
     let mut i = 0;
     while s.len() - i > BLOCK {
-        if count_followed(&s[i..i + BLOCK + 1], low, high) != 0 {
+        if has_followed(&s[i..i + BLOCK + 1], low, high) {
             return i;
         }
         i += BLOCK;

@@ -1,11 +1,12 @@
 -- `summary::past_blocks` meets its contract. The invariant: the first such byte from `i` on is the first of all. Assumes nothing.
+use mathlib.Core.Bool.{false}
 use mathlib.Core.Path.{_≡_, sym, _∙_}
 use Prim.Native.Nat.{_+_, _-_, _≤_}
 use native.Mathlib.Omega.{arith}
 use borrow.Author.Needs.{needs}
 use lib.ListN.{length, take, drop}
-use Rattle.summary.specs.Followed.{untilFollowed}
-use Rattle.summary.proofs.Followed.{none-counted, run-passed}
+use Rattle.summary.specs.Followed.{anyFollowed, untilFollowed}
+use Rattle.summary.proofs.Followed.{run-passed}
 use Rattle.summary.proofs.past_blocks.Statement.{statement}
 use Rattle.summary.proofs.past_blocks.Tie as tie
 
@@ -21,23 +22,23 @@ loop-holds c = search needs
 sub-loop : tie.Need-sub-loop Inv-loop μ-loop
 sub-loop c = search needs
 
-add-count-followed : tie.Need-add-count-followed Inv-loop μ-loop
-add-count-followed c = search needs
+add-has-followed : tie.Need-add-has-followed Inv-loop μ-loop
+add-has-followed c = search needs
 
-add-count-followed-2 : tie.Need-add-count-followed-2 Inv-loop μ-loop
-add-count-followed-2 c = search needs
+add-has-followed-2 : tie.Need-add-has-followed-2 Inv-loop μ-loop
+add-has-followed-2 c = search needs
 
-sub-count-followed : tie.Need-sub-count-followed Inv-loop μ-loop
-sub-count-followed c = search needs
+sub-has-followed : tie.Need-sub-has-followed Inv-loop μ-loop
+sub-has-followed c = search needs
 
-part-count-followed-start : tie.Need-part-count-followed-start Inv-loop μ-loop
-part-count-followed-start c = search needs
+part-has-followed-start : tie.Need-part-has-followed-start Inv-loop μ-loop
+part-has-followed-start c = search needs
 
-part-count-followed-end : tie.Need-part-count-followed-end Inv-loop μ-loop
-part-count-followed-end c = search needs
+part-has-followed-end : tie.Need-part-has-followed-end Inv-loop μ-loop
+part-has-followed-end c = search needs
 
-count-followed-requires : tie.Need-count-followed-requires Inv-loop μ-loop
-count-followed-requires c κs = search needs
+has-followed-requires : tie.Need-has-followed-requires Inv-loop μ-loop
+has-followed-requires c κs = search needs
 
 returns : tie.Need-returns Inv-loop μ-loop
 returns c = search needs
@@ -53,10 +54,9 @@ loop-again c =
     let l = c .before .before .before .before in let a = l .before .before .args in
     let s = a .s .now in
     let i = l .loop .i in
-    let uncounted = sym (c .before .count-followed .ensures) ∙ c .if1 .left in
-    let read : i + 128 + 1 - i ≡ 129 = omega arith in
-    let none = none-counted (a .low) (a .high) (take 129 (drop i s)) (rw read at uncounted) in
-    (omega arith, run-passed (a .low) (a .high) s i 128 (omega arith) none ∙ l .loop .inv .1)
+    let read : i + 96 + 1 - i ≡ 97 = omega arith in
+    let none : anyFollowed (a .low) (a .high) (take 97 (drop i s)) ≡ false = rw read at (sym (c .before .has-followed .ensures) ∙ c .if1 .left) in
+    (omega arith, run-passed (a .low) (a .high) s i 96 (omega arith) none ∙ l .loop .inv .1)
 
 returns-2 : tie.Need-returns-2 Inv-loop μ-loop
 returns-2 c = search needs
@@ -69,12 +69,12 @@ past-blocks-spec =
     μ-loop
     loop-holds
     sub-loop
-    add-count-followed
-    add-count-followed-2
-    sub-count-followed
-    part-count-followed-start
-    part-count-followed-end
-    count-followed-requires
+    add-has-followed
+    add-has-followed-2
+    sub-has-followed
+    part-has-followed-start
+    part-has-followed-end
+    has-followed-requires
     returns
     add-i
     loop-less
