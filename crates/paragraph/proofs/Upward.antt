@@ -21,7 +21,7 @@ use Rattle.text.specs.Lines.{lineStart}
 use Rattle.text.proofs.Lines.{behind-le, last-line, line-start-before, line-start-starts, blank-all}
 use Rattle.paragraph.specs.declared.Scan.{Scan}
 use Rattle.paragraph.specs.Scan.{counts, counted, scanned, paragraph, lastParagraph, textEnd, endAbove}
-use Rattle.paragraph.specs.Solid.{BlankFrom}
+use Rattle.paragraph.specs.Solid.{BlankFrom, Cut}
 use Rattle.paragraph.proofs.Blanks.{blank-tree}
 use Rattle.paragraph.proofs.Scanned.{Open, open-put, blank-put, counted-put, closed, unclosed, drop-last, text-end}
 
@@ -36,10 +36,6 @@ part-is s start end h l =
     ∙ drop-at (take start s) (part s start end) start (length-take-le start s (omega arith))
 
 -- ---- the line that ends at a place
-
--- a line starts at `end`, or the body ends there
-abbrev Cut : List ℕ → ℕ → Type 0
-Cut body end = lines body ≡ lines (take end body) ++ lines (drop end body)
 
 -- what stands behind a line does not matter
 pub start-taken : (body : List ℕ) (end : ℕ) → lineStart (take end body) end ≡ lineStart body end

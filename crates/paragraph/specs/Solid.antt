@@ -12,6 +12,10 @@ use Rattle.rules.specs.Lists.{all}
 abbrev pub SolidLen : List ℕ → ℕ → Type 0
 SolidLen body n = (n ≤ length body) × (all blankByte (drop n body) ≡ true) × (0 < n → all blankByte (drop (n - 1) body) ≡ false)
 
--- a line starts at `n`, or the body ends there, and all from there on is blank
+-- a line starts at `n`, or the body ends there
+abbrev pub Cut : List ℕ → ℕ → Type 0
+Cut body n = lines body ≡ lines (take n body) ++ lines (drop n body)
+
+-- and all from there on is blank
 abbrev pub BlankFrom : List ℕ → ℕ → Type 0
-BlankFrom body n = (n ≤ length body) × (lines body ≡ lines (take n body) ++ lines (drop n body)) × (all blankByte (drop n body) ≡ true)
+BlankFrom body n = (n ≤ length body) × Cut body n × (all blankByte (drop n body) ≡ true)

@@ -1,12 +1,10 @@
 -- `header::named_turn` meets its contract. Assumes nothing.
-use mathlib.Core.Bool.{Bool, true, false, false≢true}
 use mathlib.Core.List.{List}
-use mathlib.Core.Path.{_≡_, refl, sym, _∙_}
-use Prim.Native.Nat.{ℕ, _≤_}
+use mathlib.Core.Path.{_≡_, refl, _∙_}
+use Prim.Native.Nat.{ℕ, zero, suc, _≤_}
 use native.Mathlib.Omega.{arith}
 use borrow.Author.Needs.{needs}
-use borrow.Author.Tests.{eq-eqb, ne-eqb}
-use lib.Dec.{eqb, eqb→eq}
+use borrow.Author.Tests.{ne-eqb}
 use Rattle.commit.specs.Reader.{atOthers, namedLine}
 use Rattle.header.specs.Turns.{phaseOf}
 use Rattle.header.proofs.named_turn.Statement.{statement}
@@ -14,14 +12,11 @@ use Rattle.header.proofs.named_turn.Tie as tie
 
 -- where another line may come, a line that continues the one above may come or not: a line with a name does the same
 others : (p : ℕ) (n t : List ℕ) → (p ≡ 0 → ⊥) → (p ≡ 1 → ⊥) → p ≤ 3 → namedLine atOthers n t ≡ namedLine (phaseOf p) n t
-others p n t x y h = by (eqb p 2) refl
-  where
-    by : (b : Bool) → eqb p 2 ≡ b → namedLine atOthers n t ≡ namedLine (phaseOf p) n t
-    by true e = rw (eqb→eq p 2 (rw e tt))
-    by false e =
-        let z : p ≡ 2 → ⊥ = λ q. false≢true (sym e ∙ eq-eqb p 2 q) in
-        let three : p ≡ 3 = omega (arith, x, y, z) in
-        rw three
+others zero n t x y h = absurd (x refl)
+others (suc zero) n t x y h = absurd (y refl)
+others (suc (suc zero)) n t x y h = refl
+others (suc (suc (suc zero))) n t x y h = refl
+others (suc (suc (suc (suc k)))) n t x y h = absurd (omega arith)
 
 tree-turn-requires : tie.Need-tree-turn-requires
 tree-turn-requires c κs = search needs
