@@ -135,7 +135,7 @@ record Fall (ph : Phase) (n : ℕ) (ls : List Line) (k : ℕ) : Type 0 where
   trail : Trail ph before to
   fate : Fate to before n after k
 
-later : {to : Phase} {b : List Line} {n : ℕ} {a : List Line} {k : ℕ} (l : Line) → Fate to b (counted l n) a k → Fate to (l ∷ b) n a k
+later : {to : Phase} {b : List Line} {n : ℕ} {a : List Line} (l : Line) {k : ℕ} → Fate to b (counted l n) a k → Fate to (l ∷ b) n a k
 later l at_end = at_end
 later l (at_line d) = at_line d
 

@@ -18,7 +18,7 @@ pub data Open (deep : ℕ) (u : List ℕ) : ℕ → ℕ → List ℕ → Type 0 
   none : Open deep u 0 deep u
   more : {n d : ℕ} {s i : List ℕ} → Open deep u n (suc d) s → Inside d i → Open deep u (suc n) d (s ++ 40 ∷ i)
 
-open_count : {deep n d : ℕ} {u s : List ℕ} → Open deep u n d s → n + d ≡ deep
+open_count : {deep : ℕ} {u : List ℕ} {n d : ℕ} {s : List ℕ} → Open deep u n d s → n + d ≡ deep
 open_count none = omega arith
 open_count (more o i) = omega (arith, open_count o)
 
