@@ -111,9 +111,9 @@ too_deep_there d (inside_taken h c k) at p l e = absurd (let z : ◌≡◌ {A = 
 too_deep_there d (dead n k) at p l e = absurd l
 
 fate_15 : (d : ℕ) (to : State) (k n : ℕ) (s : List ℕ) → n ≡ 15 → Fate (suc d) to k n s → Live to → Bottom to × ((t : List ℕ) × (s ≡ 40 ∷ t))
-fate_15 d to k n s z Fate.at-end l = absurd (omega arith)
+fate_15 d to k n s z Fate.at_end l = absurd (omega arith)
 fate_15 d to k n s z (Fate.stuck e f) l = absurd (omega arith)
-fate_15 d to k n s z (Fate.too-deep {s = t} e f) l = (too_deep_there d to k k l e, (t, refl))
+fate_15 d to k n s z (Fate.too_deep {s = t} e f) l = (too_deep_there d to k k l e, (t, refl))
 
 pub ninth_inside_eight : (d : ℕ) (s : List ℕ) (k : ℕ) → read (suc d) 0 start s ≡ refused 15 k
     → (u : List ℕ) × (before : List ℕ) × (after : List ℕ) × (s ≡ before ++ 40 ∷ after) × (k ≡ length before) × Open (suc d) u (suc d) 0 before
