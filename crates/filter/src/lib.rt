@@ -52,7 +52,7 @@ pub fn is_of(kind: Kind, token: &[u8]) -> bool
 }
 
 // What a trailer is wanted by: the kind of its token, or the name that is lent beside.
-#[derive(Drop)]
+#[derive(Clone, Copy)]
 enum Wanted {
     OfKind(Kind),
     Named,
