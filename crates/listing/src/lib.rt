@@ -25,7 +25,7 @@ pub enum Listing {
 
 // How a record tells its places in the input and its line: from the front, or from the end of an input of `size` bytes, `lines` of whose
 // lines stand from the walk's start on.
-#[derive(Drop)]
+#[derive(Clone, Copy)]
 pub struct Told {
     pub from_end: bool,
     pub size: usize,
