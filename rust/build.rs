@@ -23,6 +23,6 @@ fn main() {
 fn made() -> &'static str {
     match env::var("CARGO_CFG_TARGET_ARCH").as_deref() {
         Ok("aarch64") => "target/arm",
-        _ => "target/staticlib",
+        _ => "crates/exports/out",
     }
 }
