@@ -6,10 +6,10 @@ fn main() {
     println!("cargo:rerun-if-env-changed=SLUICEPOD_ORIGINAL");
     println!("cargo:rustc-check-cfg=cfg(feature, values(\"serde\"))");
 
-    let top = PathBuf::from(env::var_os("CARGO_MANIFEST_DIR").unwrap()).join("../../..");
+    let here = PathBuf::from(env::var_os("CARGO_MANIFEST_DIR").unwrap());
     let folder = match env::var_os("SLUICEPOD_ORIGINAL") {
-        Some(named) => top.join(named),
-        None => top.join("../shared/docs/src"),
+        Some(named) => here.join("../../..").join(named),
+        None => here,
     };
     let message = folder.join("src/commit/message");
     for name in ["mod.rs", "decode.rs", "body.rs"] {
