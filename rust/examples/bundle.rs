@@ -5,7 +5,7 @@
 //! For one night of the repository in ../depot, and its report by the proved program:
 //!
 //!     cargo run --example bundle -- -C ../depot --since "yesterday 18:00" --until "today 6:00" > night.bundle
-//!     ../target/bin/report < night.bundle
+//!     ../crates/report/out/report < night.bundle
 //!
 //! `-C FOLDER` may stand first, and names the repository.
 
