@@ -1,5 +1,5 @@
 -- A divider known by its bytes, and the message's end found line by line. Assumes nothing.
-use mathlib.Core.Bool.{Bool, true, false, not, ◌&&◌, ◌||◌}
+use mathlib.Core.Bool.{Bool, true, false, ◌&&◌, ◌||◌}
 use mathlib.Core.List.{List, [], ◌∷◌, ◌++◌}
 use mathlib.Core.Logic.{⊎_elim}
 use mathlib.Core.Path.{◌≡◌, refl, sym, ap, ◌∙◌}
@@ -10,7 +10,7 @@ use lib.Dec.{T, eqb, eqb→eq}
 use lib.ListN.{length, take, drop, get_or, length-append, drop_of_length-le}
 use Rattle.rules.specs.Bytes.{LF, CR, bytes, space}
 use Rattle.rules.specs.Lines.{Line, lines, text, without}
-use Rattle.rules.specs.Lists.{equal, if◌then◌else◌, join, run, starts}
+use Rattle.rules.specs.Lists.{equal, join, run, starts}
 use Rattle.rules.proofs.Lines.{text_ending}
 use Rattle.rules.proofs.Lists.{equal_is, or_cases, same_test}
 use Rattle.rules.proofs.White.{starts_is}

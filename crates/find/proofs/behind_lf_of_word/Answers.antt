@@ -1,0 +1,11 @@
+-- `find::behind_lf_of_word` meets its contract. Assumes nothing.
+use mathlib.Core.Path.{◌∙◌}
+use Rattle.find.proofs.Words.{last_lf}
+use borrow.Author.Rules.{rules}
+use Rattle.find.proofs.behind_lf_of_word.Goals as goal
+
+pub returns : goal.returns
+returns c =
+    let s = c.args.run.now in
+    let flags = c.lf_flags.ensures s (search rules) c.word.ensures.1 c.word.ensures.0 in
+    c.behind_flag.ensures ∙ rw flags (last_lf s (search rules))
