@@ -1,4 +1,5 @@
 -- The tests on a token and on a value: a run that is as long as its bytes is all of them, and so is a trim. Assumes nothing.
+use Rattle.std.specs.Prelude.{if◌then◌else◌}
 use mathlib.Core.Bool.{Bool, true, false, ◌&&◌}
 use mathlib.Core.List.{List, [], ◌∷◌}
 use mathlib.Core.Path.{◌≡◌, refl, ◌∙◌}
@@ -10,7 +11,7 @@ use lib.ListN.{length, drop}
 use lib.Seq.{take-length}
 use Rattle.rules.specs.Bytes.{token_byte}
 use Rattle.rules.specs.Lines.{inner}
-use Rattle.rules.specs.Lists.{if◌then◌else◌, all, equal, run}
+use Rattle.rules.specs.Lists.{all, equal, run}
 use Rattle.rules.specs.Trailer.{token_in}
 use Rattle.rules.specs.White.{trim, trim_at}
 use Rattle.rules.proofs.Lists.{equal_is, same_test}

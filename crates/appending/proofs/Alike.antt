@@ -1,5 +1,6 @@
 -- A line that is given the LF that it lacks reads as before: blank, indented, its kind, its token, and its value unfolded.
 -- Assumes nothing.
+use Rattle.std.specs.Prelude.{if◌then◌else◌}
 use mathlib.Core.Bool.{Bool, true, false, not}
 use mathlib.Core.List.{List, [], ◌∷◌, ◌++◌, append-nil}
 use mathlib.Core.Path.{◌≡◌, refl, sym, ap}
@@ -8,7 +9,7 @@ use lib.Dec.{T, eqb}
 use lib.ListN.{drop}
 use Rattle.rules.specs.Bytes.{LF, colon, token_byte, gap_byte}
 use Rattle.rules.specs.Lines.{Line, inner, ends_with, without, text, blank, indented, folds}
-use Rattle.rules.specs.Lists.{if◌then◌else◌, All, all, filled, first, past, run, starts}
+use Rattle.rules.specs.Lists.{All, all, filled, first, past, run, starts}
 use Rattle.rules.specs.Paragraph.{signed_off, cherry_picked, recognised, leads}
 use Rattle.rules.specs.Trailer.{named, coloned, trailer_line, token_in, value_in, unfolded}
 use Rattle.rules.proofs.Endings.{stays}

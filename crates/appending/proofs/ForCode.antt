@@ -1,5 +1,6 @@
 -- What the code asks instead: the block start for `has_block` (has_block), and for `kept` a scan of lines from the end
 -- (kept-blank, kept-solid), after which the last ending is that of the kept bytes (kept_ending). Assumes nothing.
+use Rattle.std.specs.Prelude.{if◌then◌else◌}
 use mathlib.Core.Bool.{Bool, true, false, not, ◌||◌, or_assoc, or-false, or-true}
 use mathlib.Core.List.{List, [], ◌∷◌, ◌++◌, append_assoc, append-nil}
 use mathlib.Core.Option.{Option}
@@ -11,7 +12,7 @@ use lib.Dec.{T, eqb, ltb}
 use lib.ListN.{length, take, length-append}
 use lib.Seq.{take-append_seam}
 use Rattle.rules.specs.Lines.{Line, lines, text, blank}
-use Rattle.rules.specs.Lists.{if◌then◌else◌, All, any, filled, join}
+use Rattle.rules.specs.Lists.{All, any, filled, join}
 use Rattle.rules.specs.Paragraph.{Grouped, grouped_lines, Above, nothing, at_top, under, above_lines, solid}
 use Rattle.rules.specs.Paragraph.{Body, empty, ended, body_lines, IsBody, accepted, block_at, start_of, parse, block_start}
 use Rattle.rules.specs.Paragraph.{LastEnding, last, nowhere, or_none, ending_below}

@@ -1,5 +1,6 @@
 -- A paragraph with one line more at its end, of the first two kinds, stays accepted (accepted_longer), and its trailers are the
 -- old ones, then the new one (walk-longer). Its last line may have been given the LF that it lacked. Assumes nothing.
+use Rattle.std.specs.Prelude.{if◌then◌else◌}
 use mathlib.Core.Bool.{Bool, true, false, not, ◌&&◌, ◌||◌}
 use mathlib.Core.List.{List, [], ◌∷◌, ◌++◌, map, append_assoc, append-nil}
 use mathlib.Core.Logic.{◌⊎◌, inl, inr}
@@ -9,7 +10,7 @@ use native.Mathlib.Omega.{arith}
 use lib.Dec.{T, eqb, leb, leb→le, le→leb, lt→ltb, ltb}
 use lib.ListN.{length}
 use Rattle.rules.specs.Lines.{Line, folds}
-use Rattle.rules.specs.Lists.{if◌then◌else◌, join, run}
+use Rattle.rules.specs.Lists.{join, run}
 use Rattle.rules.specs.Paragraph.{recognised, leads, group, Grouped, grouped, lead_count, other_count, any_recognised, accepts, accepted, onto, groups}
 use Rattle.rules.specs.Trailer.{trailer, trailer_line, value_in, unfolded, walk}
 use Rattle.rules.proofs.Lists.{and_both, and_left, and_right, is_false, is_true, or_cases, or_left, or_right}

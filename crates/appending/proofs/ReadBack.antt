@@ -1,5 +1,6 @@
 -- "Read back, the trailers are the old ones, then the new one" (read_back); the old ones keep their places (read_back_at,
 -- places_kept), and the bytes up to the last non-blank line stay (bytes_kept). Assumes nothing.
+use Rattle.std.specs.Prelude.{if◌then◌else◌}
 use mathlib.Core.Bool.{Bool, true, false, not}
 use mathlib.Core.List.{List, [], ◌∷◌, ◌++◌, map, map-append, append_assoc, append-nil}
 use mathlib.Core.Logic.{◌⊎◌, inl, inr}
@@ -11,7 +12,7 @@ use lib.ListN.{length, take, length-append, length-drop}
 use lib.Seq.{take-append_seam}
 use Rattle.rules.specs.Bytes.{LF, CR}
 use Rattle.rules.specs.Lines.{Line, lines, blank}
-use Rattle.rules.specs.Lists.{if◌then◌else◌, All, any, equal, join}
+use Rattle.rules.specs.Lists.{All, any, equal, join}
 use Rattle.rules.specs.Paragraph.{solid, Body, empty, ended, nothing, above_lines, grouped_lines, body_lines, IsBody, parse, ending_below, trailers_of, message_trailers}
 use Rattle.rules.specs.Title.{LineEnd, lf, crlf, body, body_start}
 use Rattle.rules.specs.Trailer.{Trailer, trailer, place_of}

@@ -1,5 +1,6 @@
 -- The body by lines (body-lines): its lines are those behind the first line, other than the message's first, that is a line
 -- end alone. So what is changed behind a line of the body moves neither the title's end nor the body's start. Assumes nothing.
+use Rattle.std.specs.Prelude.{if◌then◌else◌}
 use mathlib.Core.Bool.{Bool, true, false, not, ◌||◌}
 use mathlib.Core.List.{List, [], ◌∷◌, ◌++◌, nil≢cons}
 use mathlib.Core.Logic.{◌⊎◌, inl, inr}
@@ -11,7 +12,7 @@ use lib.ListN.{length, take, drop}
 use lib.Seq.{drop-drop, drop-nil}
 use Rattle.rules.specs.Bytes.{CR, LF}
 use Rattle.rules.specs.Lines.{Line, lines}
-use Rattle.rules.specs.Lists.{if◌then◌else◌, equal, first, join, starts}
+use Rattle.rules.specs.Lists.{equal, first, join, starts}
 use Rattle.rules.specs.Title.{body, body_start, line_end}
 use Rattle.rules.proofs.Lines.{join-lines}
 use Rattle.rules.proofs.Lists.{equal_is, is_false, is_true, or_cases}

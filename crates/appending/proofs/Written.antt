@@ -1,6 +1,7 @@
 -- What is written: `added` is the new message of a message with a non-blank line, and the only one (new_message,
 -- new_message_only). By lines it is the lines up to the last non-blank one, that one with its LF, the empty line unless there is
 -- a block, the new line (added-lines). Assumes nothing.
+use Rattle.std.specs.Prelude.{if◌then◌else◌}
 use mathlib.Core.Bool.{Bool, true, false}
 use mathlib.Core.List.{List, [], ◌∷◌, ◌++◌, append_assoc, append-nil, nil≢cons}
 use mathlib.Core.Logic.{◌⊎◌, inl, inr}
@@ -11,7 +12,7 @@ use native.Mathlib.Omega.{arith}
 use lib.Dec.{T, T_not, not_T, eqb, eqb→eq}
 use Rattle.rules.specs.Bytes.{LF, CR, colon, space, token_byte}
 use Rattle.rules.specs.Lines.{Line, LineStart, LinesOf, none, last, line, inner, ending, ends_with, without, lines, text, blank}
-use Rattle.rules.specs.Lists.{if◌then◌else◌, All, any, filled, join}
+use Rattle.rules.specs.Lists.{All, any, filled, join}
 use Rattle.rules.specs.Paragraph.{LastEnding, nowhere, or_none, ending_below, solid}
 use Rattle.rules.specs.Title.{LineEnd, lf, crlf}
 use Rattle.rules.specs.Trailer.{TrailerLine, trailer_line, token_in, gap_in, value_in, unfolded}

@@ -1,10 +1,10 @@
 -- The message with one trailer more: document 02, K3. "From message, token and value, write a new message: blank lines at the end
 -- dropped, the last line given LF if it lacks one; an empty line too unless the body had an accepted block; then token, colon,
 -- space, value. Both new lines end with CR LF where the last non-blank line did in the message as given, else LF."
-use Rattle.std.specs.Prelude.{Bool, false, ◌&&◌, List, [], ◌∷◌, ◌++◌, ◌≡◌, ℕ, ◌+◌, T}
+use Rattle.std.specs.Prelude.{Bool, false, ◌&&◌, List, [], ◌∷◌, ◌++◌, ◌≡◌, ℕ, ◌+◌, T, if◌then◌else◌}
 use Rattle.rules.specs.Bytes.{LF, CR, space, colon, token_byte}
 use Rattle.rules.specs.Lines.{Line, inner, ending, lines, blank}
-use Rattle.rules.specs.Lists.{if◌then◌else◌, All, all, any, equal, filled, join}
+use Rattle.rules.specs.Lists.{All, all, any, equal, filled, join}
 use Rattle.rules.specs.Paragraph.{solid, Body, empty, ended, accepted, parse, ending_below}
 use Rattle.rules.specs.Title.{body}
 use Rattle.rules.specs.Trailer.{Trailer, place_of, token_of, raw_value, unfolded}

@@ -1,5 +1,6 @@
 -- The block step: the lines of a message are passed one by one (message_line), the trailers of a part one by one (part_trailer),
 -- and so the first block of the rest of a body is found (next_block_is). Assumes nothing.
+use Rattle.std.specs.Prelude.{if◌then◌else◌}
 use mathlib.Core.Bool.{Bool, true, false}
 use mathlib.Core.List.{List, [], ◌∷◌, ◌++◌, append-nil}
 use mathlib.Core.Path.{◌≡◌, refl, sym, ap, ◌∙◌}
@@ -10,7 +11,7 @@ use lib.ListN.{length, take, drop, length-append, length-drop, take-append-drop}
 use lib.Seq.{drop_at, drop-cons, drop-drop, drop-length, drop-nil, length-take-le, take-nil}
 use Rattle.rules.specs.Division.{Block, block, push_text, blocks, blocks_from}
 use Rattle.rules.specs.Lines.{Line, lines, folds}
-use Rattle.rules.specs.Lists.{if◌then◌else◌, Stops, filled, first, join, past, run}
+use Rattle.rules.specs.Lists.{Stops, filled, first, join, past, run}
 use Rattle.rules.specs.Trailer.{trailer_line, token_in, gap_in}
 use Rattle.rules.proofs.Blocks.{in_part, blocks_end, blocks-forward}
 use Rattle.rules.proofs.Lines.{join-lines, lines_suffix}

@@ -1,8 +1,8 @@
 -- What the block step answers, and the lines that it goes by.
-use Rattle.std.specs.Prelude.{not, ◌||◌, List, [], ◌∷◌, ℕ, ◌+◌, length}
+use Rattle.std.specs.Prelude.{not, ◌||◌, List, [], ◌∷◌, ℕ, ◌+◌, length, if◌then◌else◌}
 use Rattle.rules.specs.Division.{Block, block}
 use Rattle.rules.specs.Lines.{Line, lines, folds}
-use Rattle.rules.specs.Lists.{if◌then◌else◌, join, run}
+use Rattle.rules.specs.Lists.{join, run}
 use Rattle.rules.specs.Trailer.{trailer_line}
 use Rattle.block.specs.declared.NextBlock.{NextBlock}
 

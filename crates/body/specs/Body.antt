@@ -1,10 +1,9 @@
 -- What each call on a body answers, and what it leaves in the buffer: document 01's rules behind its refusal table.
-use Rattle.std.specs.Prelude.{◌&&◌, List, [], ◌∷◌, ℕ, ◌+◌, ◌-◌, length, take, drop}
+use Rattle.std.specs.Prelude.{◌&&◌, List, [], ◌∷◌, ℕ, ◌+◌, ◌-◌, length, take, drop, if◌then◌else◌}
 use Rattle.std.proofs.Math.Option.{Option, none, some}
 use Rattle.rules.specs.Answers.{Said, Row, judged, too_long, misplaced, no_room, afterwards, place_fits, range_fits}
 use Rattle.rules.specs.Answers.{block_step_says, start_says, trailer_found_says, trailer_step_says, walk_found_says, yes_no_says}
 use Rattle.rules.specs.Division.{Block, block, blocks_from}
-use Rattle.rules.specs.Lists.{if◌then◌else◌}
 use Rattle.rules.specs.Number.{cursor_at, cursor_fits, line_number, moved_on}
 use Rattle.rules.specs.Paragraph.{block_start, ending_below}
 use Rattle.rules.specs.Record.{record_of, written_of}

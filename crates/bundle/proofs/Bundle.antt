@@ -1,5 +1,6 @@
 -- Reading what was written gives the messages; what is read as a bundle of messages is their bundle, so of these alone.
 -- Assumes nothing.
+use Rattle.std.specs.Prelude.{if◌then◌else◌}
 use mathlib.Core.Bool.{Bool, true, false, ◌&&◌}
 use mathlib.Core.List.{List, [], ◌∷◌, ◌++◌, map, append_assoc}
 use mathlib.Core.Option.{none, some}
@@ -11,7 +12,7 @@ use borrow.Author.Tests.{eq-eqb, le-leb, le-ltb, ltb-false}
 use lib.Dec.{T, eqb, leb, ltb, leb→le, eqb→eq}
 use lib.ListN.{length, get_or, take, drop, length-append, length-drop, length-take, take-append-drop}
 use lib.Seq.{drop-drop, drop-length, take-add, length-take-le, drop-append_seam, take-append_seam, drop_at}
-use Rattle.rules.specs.Lists.{if◌then◌else◌, All, join}
+use Rattle.rules.specs.Lists.{All, join}
 use Rattle.rules.proofs.Lists.{all_left, all_right, and_left, and_right}
 use Rattle.bundle.specs.Bundle.{IsBundle, bundle_of, byte, count_of, ends, header_length, header_numbers, is_bundle, last_of, message_at, messages_in, most, none_falls, offset, offsets, offsets_good, parts, read_bundle, u32_at, u32_top, u32le}
 use Rattle.bundle.proofs.Numbers.{length_u32, u32_value, u32_written, value_fits}

@@ -1,7 +1,6 @@
 -- The answers of the calls that read a bundle: document 02, K11. "Refusals: 12, not a bundle, [..] after 1 for an input".
-use Rattle.std.specs.Prelude.{Bool, not, List, [], ◌∷◌, ℕ, suc, ltb, length}
+use Rattle.std.specs.Prelude.{Bool, not, List, [], ◌∷◌, ℕ, suc, ltb, length, if◌then◌else◌}
 use Rattle.rules.specs.Answers.{Said, says, Row, row, judged, too_long}
-use Rattle.rules.specs.Lists.{if◌then◌else◌}
 use Rattle.bundle.specs.Bundle.{is_bundle, messages_in, offset}
 use Rattle.bundle.specs.declared.BundleCounted.{BundleCounted}
 use Rattle.bundle.specs.declared.MessageFound.{MessageFound}

@@ -1,9 +1,9 @@
 -- The bundle: document 02, K11. "A bundle is a u32 count of at most 4,096, then count + 1 u32 offsets, little endian, then the
 -- messages. The first offset is the header's length, the last the bundle's, none falls; equal neighbours mean an empty
 -- message. Write and read it, the same messages always giving the same bytes."
-use Rattle.std.specs.Prelude.{Bool, true, false, ◌&&◌, List, [], ◌∷◌, ◌++◌, map, ◌≡◌, ℕ, zero, suc, ◌+◌, ◌-◌, ◌*◌, ◌/◌, ◌%◌, ◌≤◌, ◌<◌, eqb, leb, ltb, length, take, drop}
+use Rattle.std.specs.Prelude.{Bool, true, false, ◌&&◌, List, [], ◌∷◌, ◌++◌, map, ◌≡◌, ℕ, zero, suc, ◌+◌, ◌-◌, ◌*◌, ◌/◌, ◌%◌, ◌≤◌, ◌<◌, eqb, leb, ltb, length, take, drop, if◌then◌else◌}
 use Rattle.std.proofs.Math.Option.{Option, none, some}
-use Rattle.rules.specs.Lists.{if◌then◌else◌, join}
+use Rattle.rules.specs.Lists.{join}
 
 -- ---- "u32 [..], little endian"
 

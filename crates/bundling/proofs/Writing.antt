@@ -1,4 +1,5 @@
 -- A bundle written piece by piece, and the ranges, two numbers at a time. Assumes nothing.
+use Rattle.std.specs.Prelude.{if◌then◌else◌}
 use mathlib.Core.Bool.{true, false, ◌&&◌}
 use mathlib.Core.List.{List, [], ◌∷◌, ◌++◌, map, append_assoc}
 use mathlib.Core.Path.{◌≡◌, refl, sym, ap, ◌∙◌}
@@ -10,7 +11,7 @@ use lib.ListN.{length, get_or, take, drop, set, length-append, length-drop, leng
 use lib.Seq.{drop-cons, length-take-le, paste}
 use Rattle.rules.proofs.Lists.{and_left, and_right, is_true}
 use Rattle.rules.specs.Answers.{limit, range_fits}
-use Rattle.rules.specs.Lists.{if◌then◌else◌, join}
+use Rattle.rules.specs.Lists.{join}
 use Rattle.copy.specs.Onto.{onto}
 use Rattle.copy.proofs.Onto.{length-onto, onto-append, onto-cons, onto-nil, pasted}
 use Rattle.bundle.specs.Bundle.{bundle_of, ends, header_length, u32le}

@@ -1,12 +1,12 @@
 -- Text above the last paragraph cannot make the answer yes, nor change it in any way: two entries whose bodies end in the same bytes,
 -- as K12 has it, have the same closing note or the same refusal (nothing_above_decides, nothing_above_erases). Assumes nothing.
+use Rattle.std.specs.Prelude.{if◌then◌else◌}
 use mathlib.Core.Bool.{Bool, true, false}
 use mathlib.Core.List.{List, [], ◌∷◌, map, map-map}
 use mathlib.Core.Path.{◌≡◌, refl, sym, ap, ◌∙◌}
 use Prim.Native.Nat.{ℕ}
 use Rattle.rules.specs.Above.{EndsIn, BlankThenNot, Told, told, from_end}
 use Rattle.rules.specs.Lines.{lines}
-use Rattle.rules.specs.Lists.{if◌then◌else◌}
 use Rattle.rules.specs.Paragraph.{message_trailers, trailers_of}
 use Rattle.rules.specs.Title.{body, body_start}
 use Rattle.rules.specs.Trailer.{Trailer, trailer, those, token_of}

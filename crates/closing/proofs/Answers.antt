@@ -1,5 +1,6 @@
 -- The answers of the calls are told by their numbers and values, so a statement `says r ≡ ..` decides them; and what `may_erase` says
 -- follows from what `closing_note` says. Assumes nothing.
+use Rattle.std.specs.Prelude.{if◌then◌else◌}
 use mathlib.Core.Bool.{Bool, true, false, ◌&&◌}
 use mathlib.Core.List.{List, [], ◌∷◌}
 use mathlib.Core.Path.{◌≡◌, refl, sym, ap, ◌∙◌}
@@ -8,7 +9,6 @@ use native.Mathlib.Omega.{arith}
 use lib.Dec.{eqb}
 use lib.ListN.{get_or}
 use Rattle.rules.specs.Answers.{Said, says, number, values}
-use Rattle.rules.specs.Lists.{if◌then◌else◌}
 use Rattle.rules.specs.Record.{part}
 use Rattle.rules.specs.Trailer.{Trailer}
 use Rattle.rules.proofs.Answers.{Decides, decides}

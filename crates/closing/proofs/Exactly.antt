@@ -1,6 +1,7 @@
 -- "exactly one": a field has one content exactly where one trailer alone has its name (one_trailer, trailer_one). The answer goes by the
 -- contents alone (same_answer): it does not change with the order of trailers of different names, nor with others among them
 -- (any_order, others_aside). Assumes nothing.
+use Rattle.std.specs.Prelude.{if◌then◌else◌}
 use mathlib.Core.Bool.{Bool, true, false, not}
 use mathlib.Core.List.{List, [], ◌∷◌, ◌++◌, map}
 use mathlib.Core.Logic.{◌⊎◌, inl, inr}
@@ -8,7 +9,7 @@ use mathlib.Core.Path.{◌≡◌, refl, sym, ap, ◌∙◌}
 use Prim.Native.Nat.{ℕ}
 use native.Mathlib.Omega.{arith}
 use lib.Dec.{T}
-use Rattle.rules.specs.Lists.{if◌then◌else◌, All}
+use Rattle.rules.specs.Lists.{All}
 use Rattle.rules.specs.Trailer.{Trailer, those, token_of}
 use Rattle.rules.proofs.Lists.{is_true, is_false}
 use Rattle.closing.specs.Closing.{has, content, contents, other, One, answer}

@@ -1,4 +1,5 @@
 -- Where a content stands: a good one is a part of the message, at the place that the answer gives (content_shown). Assumes nothing.
+use Rattle.std.specs.Prelude.{if◌then◌else◌}
 use mathlib.Core.Bool.{Bool, true, false}
 use mathlib.Core.List.{List, [], ◌∷◌, ◌++◌, append_assoc, map}
 use mathlib.Core.Path.{◌≡◌, refl, sym, ap, ◌∙◌}
@@ -10,7 +11,7 @@ use lib.ListN.{length, take, drop, length-append, length-map}
 use lib.Seq.{drop-append_seam, drop-drop, length-take-le, take-append_seam, take-take}
 use Rattle.rules.specs.Answers.{part_of}
 use Rattle.rules.specs.Lines.{Line, lines}
-use Rattle.rules.specs.Lists.{if◌then◌else◌, any, filled, join}
+use Rattle.rules.specs.Lists.{any, filled, join}
 use Rattle.rules.specs.Trailer.{Trailer, raw_value, raw_value_at, end_of, those, token_of, unfolded, walk_from}
 use Rattle.rules.specs.White.{Trimmed, trim, trim_at}
 use Rattle.rules.proofs.Lines.{join-lines}

@@ -1,5 +1,6 @@
 -- The contracts decide: two ends of which one of them holds are the same. Each is told by a reading that is stopped behind the piece.
 -- Assumes nothing.
+use Rattle.std.specs.Prelude.{if◌then◌else◌}
 use mathlib.Core.Bool.{Bool, true, false, not, ◌||◌}
 use mathlib.Core.List.{List, [], ◌∷◌}
 use mathlib.Core.Path.{◌≡◌, refl, sym, ap, ◌∙◌}
@@ -7,7 +8,7 @@ use Prim.Native.Nat.{ℕ, suc}
 use native.Mathlib.Omega.{arith}
 use lib.Dec.{T, eqb, eqb→eq}
 use lib.ListN.{length, drop, get_or}
-use Rattle.rules.specs.Lists.{Stops, first, if◌then◌else◌}
+use Rattle.rules.specs.Lists.{Stops, first}
 use Rattle.rules.proofs.Lists.{is_true, is_false}
 use Rattle.mailbox.specs.Grammar.{white_byte, refused}
 use Rattle.mailbox.specs.Reader.{Home, State, home, names, none as none_named, atom, quote, quote_taken, text, dotted, inside, inside_taken, dead}

@@ -1,4 +1,5 @@
 -- What the reader does from a place on: laws of a watched reading, and what each function adds to it. Assumes nothing.
+use Rattle.std.specs.Prelude.{if◌then◌else◌}
 use mathlib.Core.Bool.{Bool, true, false, not, ◌||◌}
 use mathlib.Core.List.{List, [], ◌∷◌}
 use mathlib.Core.Path.{◌≡◌, refl, sym, ap, ◌∙◌}
@@ -9,7 +10,7 @@ use borrow.Author.Tests.{eq-eqb, ne_eqb}
 use lib.Dec.{T, eqb, eqb→eq}
 use lib.ListN.{length, drop, get_or, length-drop, drop_of_length-le}
 use lib.Seq.{drop-cons, drop-drop}
-use Rattle.rules.specs.Lists.{Stops, if◌then◌else◌}
+use Rattle.rules.specs.Lists.{Stops}
 use Rattle.rules.proofs.Lists.{is_true, is_false, or_left, or_right}
 use Rattle.mailbox.specs.Grammar.{white_byte, comment_text, quote_text, takes, refused, deepest}
 use Rattle.mailbox.specs.Reader.{Home, State, home, quote, quote_taken, dead, inside, inside_taken, opening, closing, step, finish}

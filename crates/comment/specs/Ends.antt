@@ -1,6 +1,6 @@
 -- What the functions answer: how far the reader of the mailbox (mailbox/specs/Reader) has come behind a piece, and in which state.
-use Rattle.std.specs.Prelude.{Bool, true, false, ◌||◌, List, [], ◌∷◌, ◌≡◌, ℕ, suc, ◌≤◌, T, eqb, length, drop, get_or}
-use Rattle.rules.specs.Lists.{Stops, if◌then◌else◌}
+use Rattle.std.specs.Prelude.{Bool, true, false, ◌||◌, List, [], ◌∷◌, ◌≡◌, ℕ, suc, ◌≤◌, T, eqb, length, drop, get_or, if◌then◌else◌}
+use Rattle.rules.specs.Lists.{Stops}
 use Rattle.mailbox.specs.Grammar.{white_byte, comment_text, quote_text, takes, Answer, refused, deepest}
 use Rattle.mailbox.specs.Reader.{Home, State, home, quote, quote_taken, inside, inside_taken, dead, closing, step, finish}
 use Rattle.comment.specs.declared.End.{End}

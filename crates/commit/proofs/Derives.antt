@@ -1,4 +1,5 @@
 -- What is read is good (derives): what is read from a phase on completes it. Assumes nothing.
+use Rattle.std.specs.Prelude.{if◌then◌else◌}
 use mathlib.Core.Bool.{Bool, true, false, not}
 use mathlib.Core.List.{List, [], ◌∷◌, ◌++◌, append_assoc, append-nil}
 use mathlib.Core.Path.{◌≡◌, refl, sym, ap, subst, ◌∙◌}
@@ -8,7 +9,7 @@ use lib.Dec.{T, eqb, eqb→eq}
 use lib.ListN.{length}
 use Rattle.rules.specs.Bytes.{bytes, LF, space}
 use Rattle.rules.specs.Lines.{Line, inner, lines}
-use Rattle.rules.specs.Lists.{if◌then◌else◌, All, all, equal, filled, join}
+use Rattle.rules.specs.Lists.{All, all, equal, filled, join}
 use Rattle.rules.proofs.Lists.{and_left, and_right, equal_is}
 use Rattle.rules.proofs.Lines.{join-lines}
 use Rattle.commit.specs.Grammar.{name_byte, four, hex_digit, sha1, sha256, Identifier, HeaderLine, named, written_all, Continued, Others, Good, counted}

@@ -1,8 +1,8 @@
 -- A commit object's content, header and message: document 02, K13.
-use Rattle.std.specs.Prelude.{Bool, not, ◌&&◌, ◌||◌, List, [], ◌∷◌, ◌++◌, map, ◌≡◌, ℕ, suc, ◌+◌, T, eqb, length}
+use Rattle.std.specs.Prelude.{Bool, not, ◌&&◌, ◌||◌, List, [], ◌∷◌, ◌++◌, map, ◌≡◌, ℕ, suc, ◌+◌, T, eqb, length, if◌then◌else◌}
 use Rattle.rules.specs.Bytes.{bytes, within, LF, space}
 use Rattle.rules.specs.Lines.{Line, inner}
-use Rattle.rules.specs.Lists.{if◌then◌else◌, All, equal, filled, first}
+use Rattle.rules.specs.Lists.{All, equal, filled, first}
 
 -- ---- header lines
 

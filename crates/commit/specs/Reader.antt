@@ -1,9 +1,9 @@
 -- Computed: the content read line by line, by what a line's bytes are (its shape) and what may come next (the phase). The answer is
 -- what the grammar says of the content, and no other is (proofs/Refusals, answer_says and answer_only).
-use Rattle.std.specs.Prelude.{Bool, ◌&&◌, List, [], ◌∷◌, ◌++◌, ℕ, ◌+◌, ◌-◌, eqb, length}
+use Rattle.std.specs.Prelude.{Bool, ◌&&◌, List, [], ◌∷◌, ◌++◌, ℕ, ◌+◌, ◌-◌, eqb, length, if◌then◌else◌}
 use Rattle.rules.specs.Bytes.{bytes, LF, space}
 use Rattle.rules.specs.Lines.{Line, lines}
-use Rattle.rules.specs.Lists.{if◌then◌else◌, all, equal, join}
+use Rattle.rules.specs.Lists.{all, equal, join}
 use Rattle.commit.specs.Grammar.{four, hex_digit, HeaderLine, named, counted}
 use Rattle.commit.specs.Place.{Answer, accepted, refused}
 

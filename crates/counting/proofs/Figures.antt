@@ -1,5 +1,6 @@
 -- The laws of the report: the seven counts sum to the trailers; it is added up over the messages; their order doesn't matter.
 -- Assumes nothing.
+use Rattle.std.specs.Prelude.{if◌then◌else◌}
 use mathlib.Core.Bool.{Bool, true, false}
 use mathlib.Core.List.{List, [], ◌∷◌, ◌++◌, Perm, Permᴰ}
 use mathlib.Core.Logic.{∥∥₁_elim}
@@ -10,7 +11,6 @@ use native.Mathlib.Omega.{arith}
 use lib.Dec.{eqb}
 use lib.ListN.{length}
 use Rattle.rules.specs.Bytes.{bytes}
-use Rattle.rules.specs.Lists.{if◌then◌else◌}
 use Rattle.rules.specs.Paragraph.{message_trailers}
 use Rattle.rules.specs.Trailer.{Trailer, attribution_tokens, same, token_of}
 use Rattle.counting.specs.Report.{across, counts_of, figure_of, having, number_of, plus, report_of, seven_of, sum, trailer_count, which_of, without}

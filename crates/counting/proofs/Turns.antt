@@ -1,4 +1,5 @@
 -- Counting, one trailer and one message at a time. Assumes nothing.
+use Rattle.std.specs.Prelude.{if◌then◌else◌}
 use mathlib.Core.Bool.{Bool, true, false}
 use mathlib.Core.List.{List, [], ◌∷◌}
 use mathlib.Core.Path.{◌≡◌, refl, sym, ap, ◌∙◌}
@@ -12,7 +13,7 @@ use Rattle.rules.proofs.Record.{places_fit, token_is}
 use Rattle.rules.proofs.Walk.{Stands, walk_moves, walk_stands, walk_step}
 use Rattle.rules.specs.Bytes.{LF}
 use Rattle.rules.specs.Lines.{Line, before, folds, lines}
-use Rattle.rules.specs.Lists.{if◌then◌else◌, filled, run}
+use Rattle.rules.specs.Lists.{filled, run}
 use Rattle.rules.specs.Paragraph.{block_start, message_trailers}
 use Rattle.rules.specs.Title.{body, body_start}
 use Rattle.rules.specs.Trailer.{Trailer, end_of, token_of, trailer, trailer_line, walk, walk_from}

@@ -1,7 +1,7 @@
 -- The report: document 02, K11. "The report has seven counts, one for each attribution token and one for the rest, and the number
 -- of messages without trailers."
-use Rattle.std.specs.Prelude.{List, [], ◌∷◌, ◌++◌, ℕ, suc, ◌+◌, eqb, length}
-use Rattle.rules.specs.Lists.{if◌then◌else◌, filled}
+use Rattle.std.specs.Prelude.{List, [], ◌∷◌, ◌++◌, ℕ, suc, ◌+◌, eqb, length, if◌then◌else◌}
+use Rattle.rules.specs.Lists.{filled}
 use Rattle.rules.specs.Paragraph.{message_trailers}
 use Rattle.rules.specs.Trailer.{Trailer, attribution_tokens, same, token_of}
 

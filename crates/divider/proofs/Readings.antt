@@ -1,5 +1,6 @@
 -- "Every answer equals the old reading of the message so cut, shown once for all calls that read a whole message; refusal 1 still judges
 -- the message uncut": whatever a call answers, or leaves in what it is lent. Assumes nothing.
+use Rattle.std.specs.Prelude.{if◌then◌else◌}
 use mathlib.Core.Bool.{Bool, true, false}
 use mathlib.Core.List.{List, [], ◌∷◌}
 use mathlib.Core.Path.{◌≡◌, refl, sym, ap, ◌∙◌}
@@ -9,7 +10,6 @@ use borrow.Author.Tests.{le-ltb, ltb-false}
 use lib.ListN.{length, take}
 use lib.Seq.{length-take-le, take_all}
 use Rattle.rules.specs.Answers.{Said, says, limit, over_limit}
-use Rattle.rules.specs.Lists.{if◌then◌else◌}
 use Rattle.rules.proofs.Answers.{Decides, decides}
 use Rattle.divider.specs.Divider.{Cut, cut}
 use Rattle.divider.specs.Readings.{in_either, end_found_says, read}

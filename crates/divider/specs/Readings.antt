@@ -1,8 +1,7 @@
 -- What a call that reads a whole message answers in either reading: document 02, K7. "Every answer equals the old reading of the message
 -- so cut, shown once for all calls that read a whole message; refusal 1 still judges the message uncut".
-use Rattle.std.specs.Prelude.{List, [], ◌∷◌, ℕ, length}
+use Rattle.std.specs.Prelude.{List, [], ◌∷◌, ℕ, length, if◌then◌else◌}
 use Rattle.rules.specs.Answers.{Said, says, over_limit}
-use Rattle.rules.specs.Lists.{if◌then◌else◌}
 use Rattle.divider.specs.Divider.{cut}
 use Rattle.divider.specs.declared.EndFound.{EndFound}
 use Rattle.divider.specs.declared.Reading.{Reading}

@@ -1,4 +1,5 @@
 -- What `may_erase` says, from what `closing_note` says: the limit's refusal is the same, and the rest goes by the note. Assumes nothing.
+use Rattle.std.specs.Prelude.{if◌then◌else◌}
 use mathlib.Core.Bool.{Bool, true, false, ◌&&◌}
 use mathlib.Core.List.{List, [], ◌∷◌}
 use mathlib.Core.Path.{◌≡◌, refl, ap}
@@ -6,7 +7,6 @@ use Prim.Native.Nat.{ℕ}
 use native.Mathlib.Omega.{arith}
 use lib.Dec.{eqb}
 use Rattle.rules.specs.Answers.{Said, says, number, over_limit}
-use Rattle.rules.specs.Lists.{if◌then◌else◌}
 use Rattle.rules.specs.Paragraph.{message_trailers}
 use Rattle.closing.specs.Answers.{erase_answer, flag, note_answer, refusal_says}
 use Rattle.closing.specs.Closing.{answer}

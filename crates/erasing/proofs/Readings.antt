@@ -1,5 +1,6 @@
 -- When `may_erase` says yes, in either reading (yes_exactly_when); and what cannot make it: text above the last paragraph
 -- (nothing_above_in), and in the second reading a patch below (nothing_below). Assumes nothing.
+use Rattle.std.specs.Prelude.{if◌then◌else◌}
 use mathlib.Core.Bool.{Bool, true, false}
 use mathlib.Core.List.{List, [], ◌∷◌}
 use mathlib.Core.Path.{◌≡◌, refl, sym, ap, ◌∙◌}
@@ -10,7 +11,6 @@ use lib.ListN.{get_or}
 use Rattle.rules.specs.Above.{EndsIn, BlankThenNot}
 use Rattle.rules.specs.Answers.{Said, says, number, over_limit, values}
 use Rattle.rules.specs.Lines.{lines}
-use Rattle.rules.specs.Lists.{if◌then◌else◌}
 use Rattle.rules.specs.Paragraph.{message_trailers}
 use Rattle.rules.specs.Title.{body}
 use Rattle.rules.proofs.Lists.{is_true}

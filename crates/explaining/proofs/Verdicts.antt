@@ -1,9 +1,9 @@
 -- A verdict says a block exactly where the paragraph is accepted. Assumes nothing.
+use Rattle.std.specs.Prelude.{if◌then◌else◌}
 use mathlib.Core.Bool.{Bool, true, false, ◌&&◌, ◌||◌}
 use mathlib.Core.Path.{◌≡◌, refl}
 use Prim.Native.Nat.{ℕ, ◌*◌}
 use lib.Dec.{eqb, leb, ltb}
-use Rattle.rules.specs.Lists.{if◌then◌else◌}
 use Rattle.rules.specs.Paragraph.{accepts}
 use Rattle.explaining.specs.Verdicts.{is_block, verdict_of}
 use Rattle.explaining.specs.declared.Verdict.{Verdict}

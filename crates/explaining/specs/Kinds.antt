@@ -1,8 +1,7 @@
 -- The kind of each line of the last paragraph: document 01, "The last paragraph". That the kinds are counted as t and n are is
 -- proved (proofs/Counted, kinds_counted).
-use Rattle.std.specs.Prelude.{Bool, true, false, List, [], ◌∷◌, ℕ, ◌+◌}
+use Rattle.std.specs.Prelude.{Bool, true, false, List, [], ◌∷◌, ℕ, ◌+◌, if◌then◌else◌}
 use Rattle.rules.specs.Lines.{Line, indented}
-use Rattle.rules.specs.Lists.{if◌then◌else◌}
 use Rattle.rules.specs.Paragraph.{recognised}
 use Rattle.rules.specs.Trailer.{trailer_line}
 use Rattle.explaining.specs.declared.LineKind.{LineKind}

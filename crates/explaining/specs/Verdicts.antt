@@ -1,7 +1,6 @@
 -- By which rule the last paragraph is a block, or why it is none: document 01, "The last paragraph". That a verdict says a block
 -- exactly where the paragraph is accepted is proved (proofs/Verdicts, verdict_agrees).
-use Rattle.std.specs.Prelude.{Bool, true, false, ℕ, ltb}
-use Rattle.rules.specs.Lists.{if◌then◌else◌}
+use Rattle.std.specs.Prelude.{Bool, true, false, ℕ, ltb, if◌then◌else◌}
 use Rattle.rules.specs.Paragraph.{accepts}
 use Rattle.explaining.specs.declared.Verdict.{Verdict}
 

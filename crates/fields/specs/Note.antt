@@ -1,7 +1,6 @@
 -- A field as it is seen, and the first refusal by what is seen of the three.
-use Rattle.std.specs.Prelude.{Bool, true, not, List, ◌≡◌, ℕ, ◌+◌, ◌-◌, ◌≤◌, eqb, length, take, drop}
+use Rattle.std.specs.Prelude.{Bool, true, not, List, ◌≡◌, ℕ, ◌+◌, ◌-◌, ◌≤◌, eqb, length, take, drop, if◌then◌else◌}
 use Rattle.rules.specs.Lines.{lines}
-use Rattle.rules.specs.Lists.{if◌then◌else◌}
 use Rattle.rules.specs.Trailer.{unfolded}
 use Rattle.closing.specs.Contents.{good}
 use Rattle.closing.specs.Judged.{kept_at}

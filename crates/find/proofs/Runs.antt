@@ -1,4 +1,5 @@
 -- Runs without an LF: a search goes on behind them, forward and backward. Assumes nothing.
+use Rattle.std.specs.Prelude.{if◌then◌else◌}
 use mathlib.Core.Bool.{Bool, true, false, false≢true, or_assoc, or-false, ◌||◌}
 use mathlib.Core.List.{List, [], ◌∷◌}
 use mathlib.Core.Path.{◌≡◌, refl, sym, ap, ◌∙◌}
@@ -13,7 +14,7 @@ use Rattle.rules.proofs.Lists.{or_none}
 use Rattle.rules.proofs.Number.{feeds_split}
 use Rattle.rules.proofs.Parts.{rest}
 use Rattle.rules.specs.Bytes.{LF}
-use Rattle.rules.specs.Lists.{if◌then◌else◌, any}
+use Rattle.rules.specs.Lists.{any}
 use Rattle.rules.specs.Number.{line_feeds}
 use Rattle.find.specs.Find.{behind_lf, is_lf, until_lf}
 

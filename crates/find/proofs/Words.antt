@@ -1,5 +1,6 @@
 -- LFs in a word, and in the parts of a search: the flags that the code computes are those of the LFs, and they tell where the first and the last
 -- LF stand. Assumes nothing.
+use Rattle.std.specs.Prelude.{if◌then◌else◌}
 use mathlib.Core.Bool.{Bool, true, false, false≢true, not, or-false, ◌||◌}
 use mathlib.Core.List.{List, [], ◌∷◌}
 use mathlib.Core.Path.{◌≡◌, refl, sym, ap, ◌∙◌}
@@ -11,7 +12,7 @@ use lib.Count.{count_leading_zeros, count_trailing_zeros}
 use lib.Dec.{leb-suc-suc, ltb}
 use lib.ListN.{length, take, drop, get_or}
 use lib.Seq.{get_or-take, get_or-drop, length-take-le}
-use Rattle.rules.specs.Lists.{if◌then◌else◌, any}
+use Rattle.rules.specs.Lists.{any}
 use Rattle.word.proofs.Lanes.{added, anded, before_flag, behind_flag, behind_last, each_alike, each_of, eight, next, ored, xored}
 use Rattle.word.specs.Word.{Bytes, each, flag, packed}
 use Rattle.find.specs.Find.{behind_lf, is_lf, other, until_lf}

@@ -1,7 +1,7 @@
 -- Where the nearest LF is, forward and backward. What it has to do with lines is proved in crates/text.
-use Rattle.std.specs.Prelude.{Bool, not, List, ℕ, zero, suc, eqb, length, get_or}
+use Rattle.std.specs.Prelude.{Bool, not, List, ℕ, zero, suc, eqb, length, get_or, if◌then◌else◌}
 use Rattle.rules.specs.Bytes.{LF}
-use Rattle.rules.specs.Lists.{if◌then◌else◌, run}
+use Rattle.rules.specs.Lists.{run}
 
 abbrev pub is_lf : ℕ → Bool
 is_lf c = eqb c LF

@@ -1,11 +1,11 @@
 -- The table and the buffer of a message in a reading: what a rule about the message leaves in them. Assumes nothing.
+use Rattle.std.specs.Prelude.{if◌then◌else◌}
 use mathlib.Core.Bool.{Bool, true, false}
 use mathlib.Core.List.{List, []}
 use mathlib.Core.Path.{◌≡◌, refl}
 use Prim.Native.Nat.{ℕ, ◌/◌}
 use lib.ListN.{length}
 use Rattle.rules.specs.Answers.{says, afterwards, over_limit}
-use Rattle.rules.specs.Lists.{if◌then◌else◌}
 use Rattle.divider.specs.Readings.{left_in, read}
 use Rattle.divider.specs.declared.Reading.{Reading}
 use Rattle.planning.specs.Scopes.{message_buffer, message_listing, scope_buffer, scope_records, scope_values}

@@ -1,6 +1,7 @@
 -- What `find_foot` reads off the last paragraph: its closing blank line is the first of the last bytes, or there is none, exactly where they
 -- are not enough (enough_is); the lines looked at are those from its start on (looked_is); the walk starts where it should (start_is); what stands above
 -- is not looked at (above_unread). What an answer of `find_foot` tells (found_more, found_at). Assumes nothing.
+use Rattle.std.specs.Prelude.{if◌then◌else◌}
 use mathlib.Core.Bool.{Bool, true, false, not, ◌&&◌}
 use mathlib.Core.List.{List, [], ◌∷◌, ◌++◌, append_assoc, drop_last}
 use mathlib.Core.Path.{◌≡◌, refl, sym, ap, ◌∙◌}
@@ -17,7 +18,7 @@ use Rattle.rules.proofs.Lists.{join-append}
 use Rattle.rules.proofs.Paragraph.{parse-lines}
 use Rattle.rules.specs.Bytes.{LF}
 use Rattle.rules.specs.Lines.{Line, LineStart, before, lines}
-use Rattle.rules.specs.Lists.{if◌then◌else◌, filled, join}
+use Rattle.rules.specs.Lists.{filled, join}
 use Rattle.rules.specs.Number.{line_feeds}
 use Rattle.rules.specs.Paragraph.{nothing, at_top, under, above_lines, Body, empty, ended, accepted, body_lines, grouped, grouped_lines, other_count, parse}
 use Rattle.find.specs.Find.{behind_lf}

@@ -1,5 +1,6 @@
 -- K1's records of trailers that stand further on, told from the end, are those of the trailers themselves (told_same): the cursors may
 -- start at other places and with other numbers, as long as the lines that are told from make up for it (Even). Assumes nothing.
+use Rattle.std.specs.Prelude.{if◌then◌else◌}
 use mathlib.Core.Bool.{Bool, true, false}
 use mathlib.Core.List.{List, [], ◌∷◌, ◌++◌, map}
 use mathlib.Core.Path.{◌≡◌, refl, sym, ap, ◌∙◌}
@@ -11,7 +12,7 @@ use lib.ListN.{length, take, length-append}
 use lib.Seq.{take-append-add}
 use Rattle.rules.proofs.Number.{feeds_append, feeds_split}
 use Rattle.rules.proofs.Walk.{shifted as further, those_place, walk_moves, walk_step}
-use Rattle.rules.specs.Lists.{if◌then◌else◌, filled}
+use Rattle.rules.specs.Lists.{filled}
 use Rattle.rules.specs.Number.{line_feeds, moved_on}
 use Rattle.rules.specs.Record.{part, record_of, value_of, written_of}
 use Rattle.rules.specs.Trailer.{Trailer, trailer, end_of, ending_of, place_of, raw_value, raw_value_at, those, token_of, unfolded, value_is_written, walk_from}

@@ -1,5 +1,6 @@
 -- K8 in K6: a record's number counts the lines from the trailer's own to the last, which is 1 (counted_upward); the numbers fall along the
 -- walk, and none is more than the lines looked at (numbers_fall, foot_falls). Assumes nothing.
+use Rattle.std.specs.Prelude.{if◌then◌else◌}
 use mathlib.Core.Bool.{Bool, true, false}
 use mathlib.Core.List.{List, [], ◌∷◌, ◌++◌, map}
 use mathlib.Core.Path.{◌≡◌, refl, sym, ap, ◌∙◌}
@@ -12,7 +13,7 @@ use Rattle.rules.proofs.Number.{moved_right}
 use Rattle.rules.proofs.Paragraph.{parse-lines}
 use Rattle.rules.proofs.Walk.{walk_moves, walk_stands, walk_step}
 use Rattle.rules.specs.Lines.{Line, folds, lines}
-use Rattle.rules.specs.Lists.{if◌then◌else◌, join, run}
+use Rattle.rules.specs.Lists.{join, run}
 use Rattle.rules.specs.Number.{Right, cursor_at, line_feeds, moved_on}
 use Rattle.rules.specs.Paragraph.{Body, empty, ended, above_lines, accepted, block_start, body_lines, grouped_lines, parse, trailers_of}
 use Rattle.rules.specs.Record.{written_of}

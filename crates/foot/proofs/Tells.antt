@@ -1,6 +1,7 @@
 -- K6: the last bytes of a body tell its trailers wherever they are enough, whatever stands in front, and all bytes always do (foot_tells,
 -- whole_answers); so the last bytes may be listed as a body by themselves (foot_records_lem, foot_values_lem). Refusal 8 is given exactly
 -- where they are not enough (eight_exactly, eight_only). Assumes nothing.
+use Rattle.std.specs.Prelude.{if◌then◌else◌}
 use mathlib.Core.Bool.{Bool, true, false, false≢true, not, ◌||◌}
 use mathlib.Core.List.{List, [], ◌∷◌, ◌++◌, append_assoc, map, nil≢cons}
 use mathlib.Core.Path.{◌≡◌, refl, sym, ap, ◌∙◌}
@@ -12,7 +13,7 @@ use Rattle.rules.proofs.Lines.{join-lines, lines-append, lines_of, lines_suffix}
 use Rattle.rules.specs.Answers.{says, limit, number, over_limit}
 use Rattle.rules.specs.Bytes.{LF}
 use Rattle.rules.specs.Lines.{Line, LinesOf, none, last, line, LineStart, lines}
-use Rattle.rules.specs.Lists.{if◌then◌else◌, join}
+use Rattle.rules.specs.Lists.{join}
 use Rattle.listing.specs.Listing.{from_end, records_from, tell, values_from, values_of}
 use Rattle.foot.specs.Foot.{Tells, foot, foot_answer, foot_enough, foot_lines, foot_records, foot_values, looked, settles, told_values}
 use Rattle.foot.specs.Found.{foot_cursor, foot_start, lines_from}

@@ -1,6 +1,7 @@
 -- The full walk of a body, told from the end: it may be listed from any place from which the trailers are the same, with the lines counted
 -- from there (told_from), so from the last paragraph (walk_from_foot); and what stands above a blank line above the last paragraph
 -- changes nothing of it (told_below, values_below). Assumes nothing.
+use Rattle.std.specs.Prelude.{if◌then◌else◌}
 use mathlib.Core.Bool.{Bool, true, false}
 use mathlib.Core.List.{List, [], ◌∷◌, ◌++◌, append_assoc, map}
 use mathlib.Core.Path.{◌≡◌, refl, sym, ap, ◌∙◌}
@@ -19,7 +20,7 @@ use Rattle.rules.proofs.Number.{feeds_and_lines}
 use Rattle.rules.proofs.Paragraph.{body_unique, parse_is, parse-lines, start_by}
 use Rattle.rules.proofs.Walk.{shifted as further, walk_ends, walk_moves, walk_shift, walk_within}
 use Rattle.rules.specs.Lines.{Line, LineStart, lines}
-use Rattle.rules.specs.Lists.{if◌then◌else◌, filled, join}
+use Rattle.rules.specs.Lists.{filled, join}
 use Rattle.rules.specs.Number.{cursor_at, cursor_fits, line_feeds}
 use Rattle.rules.specs.Paragraph.{Above, nothing, Grouped, Body, empty, ended, IsBody, above_lines, accepted, block_start, body_lines, grouped_lines, parse, trailers_of}
 use Rattle.rules.specs.Trailer.{Trailer, walk, walk_from}

@@ -1,9 +1,8 @@
 -- The worked examples of K6, and further ones, as rows of tables. One theorem holds of all of a table (proofs/Examples, cases and refused_differ).
-use Rattle.std.specs.Prelude.{Bool, true, false, List, [], ◌∷◌, ◌++◌, map, ℕ, eqb}
+use Rattle.std.specs.Prelude.{Bool, true, false, List, [], ◌∷◌, ◌++◌, map, ℕ, eqb, if◌then◌else◌}
 use Prim.Native.String.{String}
 use Rattle.rules.specs.Answers.{Said, says, ending_says, number, trailer_says}
 use Rattle.rules.specs.Bytes.{bytes}
-use Rattle.rules.specs.Lists.{if◌then◌else◌}
 use Rattle.rules.specs.declared.TrailerRef.{TrailerRef}
 use Rattle.foot.specs.Foot.{foot_answer, foot_enough, foot_records, foot_values, told_records}
 

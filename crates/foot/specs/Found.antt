@@ -1,7 +1,7 @@
 -- Where `find_foot` finds the foot.
-use Rattle.std.specs.Prelude.{Bool, List, ℕ, length, drop}
+use Rattle.std.specs.Prelude.{Bool, List, ℕ, length, drop, if◌then◌else◌}
 use Rattle.rules.specs.Lines.{lines}
-use Rattle.rules.specs.Lists.{if◌then◌else◌, join}
+use Rattle.rules.specs.Lists.{join}
 use Rattle.rules.specs.Paragraph.{Body, empty, ended, above_lines, accepted, parse}
 use Rattle.rules.specs.declared.Cursor.{Cursor}
 use Rattle.foot.specs.Foot.{foot, foot_enough, looked}

@@ -2,8 +2,7 @@
 // end upwards, to the blank line above the last paragraph.
 #![tactic(auto)]
 
-ghost use Rattle.std.specs.Prelude.{◌≡◌, ◌+◌, ◌*◌, ◌^◌, ◌<◌, ◌≤◌, length};
-ghost use Rattle.rules.specs.Lists.{if◌then◌else◌};
+ghost use Rattle.std.specs.Prelude.{◌≡◌, ◌+◌, ◌*◌, ◌^◌, ◌<◌, ◌≤◌, length, if◌then◌else◌};
 ghost use Rattle.rules.specs.Paragraph.{accepts};
 ghost use Rattle.foot.specs.Found.{foot_found, lines_from};
 

@@ -1,4 +1,5 @@
 -- What a scan reads from a place on, and what a line's turn is by the phase. Assumes nothing.
+use Rattle.std.specs.Prelude.{if◌then◌else◌}
 use mathlib.Core.Bool.{Bool, true, false, and_assoc, ◌&&◌}
 use mathlib.Core.List.{List}
 use mathlib.Core.Path.{◌≡◌, refl, sym, ap}
@@ -9,7 +10,7 @@ use borrow.Author.Tests.{eq-eqb, ne_eqb}
 use lib.Dec.{eqb}
 use lib.ListN.{length, drop, get_or, drop_of_length-le}
 use lib.Seq.{drop-cons}
-use Rattle.rules.specs.Lists.{if◌then◌else◌, all, run}
+use Rattle.rules.specs.Lists.{all, run}
 use Rattle.commit.specs.Grammar.{name_byte, hex_digit}
 use Rattle.commit.specs.Reader.{at_tree, at_parents, at_committer, at_others, on, fault, empty_line, spaced_line, identifier}
 use Rattle.header.specs.Turns.{phase_of, turn_of}

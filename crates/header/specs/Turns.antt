@@ -1,7 +1,7 @@
 -- What may come next in a header, and what a line does, as the numbers that the code has for them.
-use Rattle.std.specs.Prelude.{Bool, ◌&&◌, List, ℕ, eqb, take, drop}
+use Rattle.std.specs.Prelude.{Bool, ◌&&◌, List, ℕ, eqb, take, drop, if◌then◌else◌}
 use Rattle.rules.specs.Bytes.{bytes, LF}
-use Rattle.rules.specs.Lists.{if◌then◌else◌, first, starts}
+use Rattle.rules.specs.Lists.{first, starts}
 use Rattle.commit.specs.Reader.{Phase, at_tree, at_parents, at_committer, at_others, at_under, Turn, on, end, fault, identifier}
 
 -- a phase as a number: where a parent or the author may come, it is the length of the identifiers

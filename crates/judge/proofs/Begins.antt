@@ -1,5 +1,6 @@
 -- Where the line of a number begins: in a good header, behind the lines before it (begins_is). So what a scan has seen of it is right
 -- (good_header). Assumes nothing.
+use Rattle.std.specs.Prelude.{if◌then◌else◌}
 use mathlib.Core.Bool.{Bool, true, false}
 use mathlib.Core.List.{List, [], ◌∷◌, ◌++◌, append_assoc}
 use mathlib.Core.Path.{◌≡◌, refl, sym, ap, ◌∙◌}
@@ -10,7 +11,7 @@ use lib.Dec.{T, eqb}
 use lib.ListN.{length, take, length-append}
 use Rattle.rules.specs.Bytes.{LF, space}
 use Rattle.rules.specs.Lines.{Line, inner, lines, before}
-use Rattle.rules.specs.Lists.{if◌then◌else◌, All, filled}
+use Rattle.rules.specs.Lists.{All, filled}
 use Rattle.rules.specs.declared.Part.{Part}
 use Rattle.rules.proofs.Lists.{all_of, all_append}
 use Rattle.commit.specs.Grammar.{name_byte, HeaderLine, named, written, written_all, Continued, Good, counted}

@@ -1,4 +1,5 @@
 -- A parent's line at a place, by what stands at the front there. Assumes nothing.
+use Rattle.std.specs.Prelude.{if◌then◌else◌}
 use mathlib.Core.Bool.{Bool, true, ◌&&◌}
 use mathlib.Core.List.{List, [], ◌∷◌, ◌++◌}
 use mathlib.Core.Path.{◌≡◌, refl, sym, ap, ◌∙◌}
@@ -9,7 +10,7 @@ use lib.Dec.{T, eqb, ltb, eqb→eq}
 use lib.ListN.{length, take, drop, take-append-drop, length-append, length-drop}
 use Rattle.rules.specs.Bytes.{bytes, LF, space}
 use Rattle.rules.specs.Lines.{Line, inner, lines}
-use Rattle.rules.specs.Lists.{if◌then◌else◌, All, all, first, starts}
+use Rattle.rules.specs.Lists.{All, all, first, starts}
 use Rattle.rules.proofs.Lists.{and_left, and_right, all_append, all_of, is_true}
 use Rattle.rules.proofs.White.{starts_is}
 use Rattle.commit.specs.Grammar.{name_byte, hex_digit}

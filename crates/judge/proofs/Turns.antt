@@ -1,4 +1,5 @@
 -- What is judged from a line on, and what is seen of the line asked for. Assumes nothing.
+use Rattle.std.specs.Prelude.{if◌then◌else◌}
 use mathlib.Core.Bool.{true, false}
 use mathlib.Core.List.{List, [], ◌∷◌, ◌++◌}
 use mathlib.Core.Path.{◌≡◌, sym, ap, subst, ◌∙◌}
@@ -10,7 +11,7 @@ use lib.ListN.{length, drop, get_or, length-append, length-drop, drop_of_length-
 use lib.Seq.{drop-cons, drop-drop, drop-append_seam}
 use Rattle.rules.specs.Bytes.{LF, space}
 use Rattle.rules.specs.Lines.{Line, lines}
-use Rattle.rules.specs.Lists.{if◌then◌else◌, All, filled, join}
+use Rattle.rules.specs.Lists.{All, filled, join}
 use Rattle.rules.specs.declared.Part.{Part}
 use Rattle.rules.proofs.Lists.{filled_some}
 use Rattle.rules.proofs.Lines.{join-lines, filled-lines, lines_suffix}

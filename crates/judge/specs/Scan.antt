@@ -1,7 +1,6 @@
 -- What the functions answer, said by the grammar and the reader of commit.
-use Rattle.std.specs.Prelude.{List, [], ◌∷◌, ◌≡◌, ℕ, suc, ◌+◌, ◌<◌, leb, length, take, drop}
+use Rattle.std.specs.Prelude.{List, [], ◌∷◌, ◌≡◌, ℕ, suc, ◌+◌, ◌<◌, leb, length, take, drop, if◌then◌else◌}
 use Rattle.rules.specs.Lines.{Line, lines}
-use Rattle.rules.specs.Lists.{if◌then◌else◌}
 use Rattle.rules.specs.declared.Part.{Part}
 use Rattle.commit.specs.Answers.{message_start}
 use Rattle.commit.specs.Grammar.{HeaderLine, written_all, Good, counted}

@@ -1,8 +1,7 @@
 // A commit object's header, judged line by line in one scan.
 #![tactic(auto)]
 
-ghost use Rattle.std.specs.Prelude.{◌≡◌, ◌+◌, ◌-◌, suc, ◌<◌, eqb, length};
-ghost use Rattle.rules.specs.Lists.{if◌then◌else◌};
+ghost use Rattle.std.specs.Prelude.{◌≡◌, ◌+◌, ◌-◌, suc, ◌<◌, eqb, length, if◌then◌else◌};
 ghost use Rattle.judge.specs.Scan.{Judges, LineTurn, begun};
 
 use find::find_lf;

@@ -1,6 +1,7 @@
 -- The single steps, called until the end, give the records and the values of the walk (given_by_steps), and nothing else (steps_give): so
 -- there are as many records as trailers in the walk, and as many bytes as its written values have (records_count, bytes_count).
 -- Assumes nothing.
+use Rattle.std.specs.Prelude.{if◌then◌else◌}
 use mathlib.Core.Bool.{Bool, true, false, not, ◌||◌}
 use mathlib.Core.List.{List, [], ◌∷◌, ◌++◌, map}
 use mathlib.Core.Path.{◌≡◌, refl, sym, ap, ◌∙◌}
@@ -12,7 +13,6 @@ use lib.ListN.{length, take, drop, length-append, length-drop}
 use Rattle.rules.proofs.Number.{moved_fits}
 use Rattle.rules.proofs.Walk.{walk_moves, walk_step, walk_within}
 use Rattle.rules.specs.Answers.{Said, says, afterwards, limit, number, over_limit, trailer_step_says}
-use Rattle.rules.specs.Lists.{if◌then◌else◌}
 use Rattle.rules.specs.Number.{cursor_fits, moved_on}
 use Rattle.rules.specs.Record.{record_of, written_of}
 use Rattle.rules.specs.Trailer.{Trailer, end_of, only, place_of, raw_value, raw_value_at, walk_from}

@@ -1,5 +1,6 @@
 -- The turns of a loop that lists, as facts on lists: where they start, what a turn asks of the step, what it leaves, and how they end. A
 -- record is laid into the table as the cells that `cells` makes of it: itself, or numbers. Assumes nothing.
+use Rattle.std.specs.Prelude.{if◌then◌else◌}
 use mathlib.Core.Bool.{Bool, true, false, false≢true}
 use mathlib.Core.List.{List, [], ◌∷◌, ◌++◌, map}
 use mathlib.Core.Path.{◌≡◌, refl, sym, ap, ◌∙◌}
@@ -12,7 +13,6 @@ use lib.Seq.{length-take-le, take-take}
 use Rattle.rules.proofs.Number.{moved_fits}
 use Rattle.rules.proofs.Walk.{walk_moves, walk_step, walk_within}
 use Rattle.rules.specs.Answers.{Said, afterwards, limit, number, trailer_step_says}
-use Rattle.rules.specs.Lists.{if◌then◌else◌}
 use Rattle.rules.specs.Number.{cursor_fits, moved_on}
 use Rattle.rules.specs.Record.{part, record_of, value_of, written_of}
 use Rattle.rules.specs.Trailer.{Trailer, end_of, only, place_of, raw_value, unfolded, value_is_written, walk_from}

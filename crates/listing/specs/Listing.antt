@@ -1,9 +1,8 @@
 -- All trailers at once: document 02, K1. "Add a listing that fills a caller's table with one record for each trailer, in walk order;
 -- folded values are unfolded one behind another, each into the part of the buffer still free. Table and buffer hold exactly what the
 -- single steps give, called until the end, save that places in the buffer count from its own front; entries and bytes behind them stay."
-use Rattle.std.specs.Prelude.{true, false, List, [], ◌∷◌, ◌++◌, ◌≡◌, ℕ, ◌+◌, ◌-◌, length, take, drop}
+use Rattle.std.specs.Prelude.{true, false, List, [], ◌∷◌, ◌++◌, ◌≡◌, ℕ, ◌+◌, ◌-◌, length, take, drop, if◌then◌else◌}
 use Rattle.rules.specs.Answers.{trailer_step_says}
-use Rattle.rules.specs.Lists.{if◌then◌else◌}
 use Rattle.rules.specs.Number.{moved_on}
 use Rattle.rules.specs.Record.{part, record_of, written_of}
 use Rattle.rules.specs.Trailer.{Trailer, end_of, place_of, raw_value, walk_from}

@@ -1,10 +1,10 @@
 -- A statement `mailbox_says r ≡ ..` allows one answer (mailbox_decides): each answer is told from what is said of it. Assumes nothing.
+use Rattle.std.specs.Prelude.{if◌then◌else◌}
 use mathlib.Core.List.{List, [], ◌∷◌}
 use mathlib.Core.Path.{◌≡◌, refl, sym, ap, ◌∙◌}
 use Prim.Native.Nat.{ℕ, zero, suc}
 use lib.Dec.{eqb}
 use Rattle.rules.specs.Answers.{Said, says}
-use Rattle.rules.specs.Lists.{if◌then◌else◌}
 use Rattle.rules.specs.declared.Part.{Part}
 use Rattle.mailbox.specs.Answers.{mailbox_says}
 use Rattle.mailbox.specs.declared.MailboxFound.{MailboxFound}

@@ -1,5 +1,6 @@
 -- What is read is derived (derives). `Rest` says of each state which bytes complete it; a byte is put in front of what
 -- completes the state behind it (back), so the induction is over the bytes and needs nothing else. Assumes nothing.
+use Rattle.std.specs.Prelude.{if◌then◌else◌}
 use mathlib.Core.Bool.{Bool, true, false, not}
 use mathlib.Core.List.{List, [], ◌∷◌, ◌++◌, append_assoc, append-nil}
 use mathlib.Core.Path.{◌≡◌, refl, sym, ap, ◌∙◌}
@@ -7,7 +8,7 @@ use Prim.Native.Nat.{ℕ, zero, suc, ◌+◌}
 use native.Mathlib.Omega.{arith}
 use lib.Dec.{T, eqb, eqb→eq}
 use lib.ListN.{length, length-append}
-use Rattle.rules.specs.Lists.{All, Stops, if◌then◌else◌}
+use Rattle.rules.specs.Lists.{All, Stops}
 use Rattle.mailbox.specs.Grammar.{white_byte, atext, quote_text, comment_text, takes, Inside, Gap, Atom, DotAtom, Quoted, Word, Words, Names, Ranges, ranges, Mailbox, Answer, accepted, refused}
 use Rattle.mailbox.specs.Reader.{Named, Half, Home, State, home, atom, quote, quote_taken, text, dotted, inside, inside_taken, dead, names, opened, behind, closed}
 use Rattle.mailbox.specs.Reader.{local, domain, none, some, from_of, to_of, sign_of, next, opening, closing, begin, spaced, step, finish, read, start}

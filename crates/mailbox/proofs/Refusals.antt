@@ -1,6 +1,7 @@
 -- The reader's refusal is the one that the grammar defines, and there is one only (answer_says, answer_only). Every live state
 -- can be completed (completes); a state and the one that allows comments one deeper go together (together), up to the bracket
 -- at which the first dies of depth. Assumes nothing.
+use Rattle.std.specs.Prelude.{if◌then◌else◌}
 use mathlib.Core.Bool.{Bool, true, false, not}
 use mathlib.Core.List.{List, [], ◌∷◌, ◌++◌, append_assoc, append-nil}
 use mathlib.Core.Logic.{◌⊎◌, inl, inr}
@@ -9,7 +10,6 @@ use Prim.Native.Nat.{ℕ, zero, suc, ◌+◌}
 use native.Mathlib.Omega.{arith}
 use lib.Dec.{T, eqb, eqb→eq}
 use lib.ListN.{length, length-append}
-use Rattle.rules.specs.Lists.{if◌then◌else◌}
 use Rattle.rules.proofs.Lists.{Earlier, cuts}
 use Rattle.mailbox.specs.Grammar.{white_byte, atext, quote_text, comment_text, takes, Ranges, ranges, Mailbox, Answer, accepted, refused}
 use Rattle.mailbox.specs.Reader.{Named, Half, Home, State, home, atom, quote, quote_taken, text, dotted, inside, inside_taken, dead, names, opened, behind, closed}

@@ -1,4 +1,5 @@
 -- What the parts of a summary answer, in the numbers and values that its statement gives. Assumes nothing.
+use Rattle.std.specs.Prelude.{if◌then◌else◌}
 use mathlib.Core.Bool.{Bool, true, false}
 use mathlib.Core.List.{List, [], ◌∷◌}
 use mathlib.Core.Path.{◌≡◌, refl, ◌∙◌}
@@ -9,7 +10,6 @@ use lib.Dec.{ltb}
 use lib.ListN.{length}
 use Rattle.rules.proofs.Answers.{fitted_is}
 use Rattle.rules.specs.Answers.{says, judged, limit, no_room, value_found_says}
-use Rattle.rules.specs.Lists.{if◌then◌else◌}
 use Rattle.rules.specs.Record.{fitted, part, written_found}
 use Rattle.rules.specs.Summary.{many, pieces, spaced, summary, summary_is_written}
 use Rattle.rules.specs.White.{trim, trim_at}

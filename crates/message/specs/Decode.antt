@@ -1,7 +1,7 @@
 -- What `message_title_and_body` answers.
-use Rattle.std.specs.Prelude.{List, [], ◌∷◌, ℕ}
+use Rattle.std.specs.Prelude.{List, [], ◌∷◌, ℕ, if◌then◌else◌}
 use Rattle.rules.specs.Answers.{Said, judged, too_long, title_says}
-use Rattle.rules.specs.Lists.{if◌then◌else◌, filled}
+use Rattle.rules.specs.Lists.{filled}
 use Rattle.rules.specs.Title.{title_end, body_start, body}
 use Rattle.rules.specs.declared.TitleAndBody.{TitleAndBody}
 

@@ -1,8 +1,7 @@
 -- What each call on a whole message, or on a title, answers and leaves in the buffer: document 01's rules behind its refusal
 -- table.
-use Rattle.std.specs.Prelude.{List, [], ◌∷◌, ℕ, ◌+◌, length}
+use Rattle.std.specs.Prelude.{List, [], ◌∷◌, ℕ, ◌+◌, length, if◌then◌else◌}
 use Rattle.rules.specs.Answers.{Said, says, judged, too_long, no_room, afterwards, value_found_says, walk_found_says}
-use Rattle.rules.specs.Lists.{if◌then◌else◌}
 use Rattle.rules.specs.Number.{cursor_at}
 use Rattle.rules.specs.Paragraph.{block_start}
 use Rattle.rules.specs.Record.{part}

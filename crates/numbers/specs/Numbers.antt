@@ -1,9 +1,8 @@
 -- How an answer crosses to C and Rust, where only numbers and slices can: its number is returned as a code, and its values
 -- are written to a lent slice `result`, behind an entry that says how many they are. What the answers are is said elsewhere
 -- (crates/rules/specs/Answers, crates/message/specs); the code 255, and 254 of crates/exports/specs/ByKind, are added here.
-use Rattle.std.specs.Prelude.{Bool, List, [], ◌∷◌, ◌++◌, ℕ, suc, ltb, length, drop, get_or}
+use Rattle.std.specs.Prelude.{Bool, List, [], ◌∷◌, ◌++◌, ℕ, suc, ltb, length, drop, get_or, if◌then◌else◌}
 use Rattle.rules.specs.Answers.{Said, number, values}
-use Rattle.rules.specs.Lists.{if◌then◌else◌}
 use Rattle.rules.specs.declared.Kind.{Kind}
 use Rattle.numbers.specs.declared.Asked.{Asked}
 

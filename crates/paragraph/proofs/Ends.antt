@@ -1,4 +1,5 @@
 -- The last non-blank line holds the last byte that is not blank, and where the line starts does not change how it ended. Assumes nothing.
+use Rattle.std.specs.Prelude.{if◌then◌else◌}
 use mathlib.Core.Bool.{Bool, true, false, false≢true, and-true, not}
 use mathlib.Core.List.{List, [], ◌∷◌}
 use mathlib.Core.Option.{Option, none, some}
@@ -10,7 +11,7 @@ use lib.ListN.{length, get_or, take, drop}
 use lib.Seq.{drop-drop, length-take-le}
 use Rattle.rules.specs.Bytes.{LF, blank_byte}
 use Rattle.rules.specs.Lines.{Line, before, ending, lines}
-use Rattle.rules.specs.Lists.{if◌then◌else◌, all}
+use Rattle.rules.specs.Lists.{all}
 use Rattle.rules.specs.Paragraph.{ending_below, ending_under, last_ending, or_none, solid}
 use Rattle.rules.specs.declared.Ending.{Ending}
 use Rattle.text.proofs.Blanks.{blank_before, blank_next, blank_parts}

@@ -1,6 +1,7 @@
 -- The backward scan: its counts are those of the tree of the lines that it has seen (counted-put), they are small enough to be
 -- summed and tripled (counted_within), a blank line above the paragraph settles them (closed), and they give the block start
 -- (start_decided). Assumes nothing.
+use Rattle.std.specs.Prelude.{if◌then◌else◌}
 use mathlib.Core.Bool.{Bool, true, false, true≢false, false≢true}
 use mathlib.Core.List.{List, [], ◌∷◌, ◌++◌, append_assoc, append-nil, drop_last}
 use mathlib.Core.Logic.{inl, inr}
@@ -14,7 +15,7 @@ use lib.ListN.{length, take, length-append}
 use lib.Seq.{take-append_seam}
 use Rattle.rules.specs.Bytes.{blank_byte}
 use Rattle.rules.specs.Lines.{Line, lines, text, blank, indented, folds}
-use Rattle.rules.specs.Lists.{if◌then◌else◌, All, filled, join, starts}
+use Rattle.rules.specs.Lists.{All, filled, join, starts}
 use Rattle.rules.specs.Paragraph.{cherry_picked, signed_off, recognised, leads, Group, grouped, grouped_lines, lead_count, other_count, any_recognised}
 use Rattle.rules.specs.Paragraph.{accepts, accepted, Above, nothing, at_top, under, above_lines, solid, Body, empty, ended, body_lines}
 use Rattle.rules.specs.Paragraph.{block_at, start_of, onto, put, parse, block_start}

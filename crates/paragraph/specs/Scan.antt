@@ -1,8 +1,8 @@
 -- What the backward scan counts of the last paragraph, read off the paragraph's tree (rules, Paragraph).
-use Rattle.std.specs.Prelude.{Bool, true, false, ◌||◌, ℕ, ◌+◌, length}
+use Rattle.std.specs.Prelude.{Bool, true, false, ◌||◌, ℕ, ◌+◌, length, if◌then◌else◌}
 use mathlib.Core.List.{List, [], ◌∷◌, drop_last}
 use Rattle.rules.specs.Lines.{Line, text, indented}
-use Rattle.rules.specs.Lists.{if◌then◌else◌, join}
+use Rattle.rules.specs.Lists.{join}
 use Rattle.rules.specs.Paragraph.{Body, empty, ended, above_lines, grouped, recognised, leads, lead_count, other_count, any_recognised}
 use Rattle.paragraph.specs.declared.Scan.{Scan}
 use Rattle.paragraph.specs.declared.Paragraph.{Paragraph}

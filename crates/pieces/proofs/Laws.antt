@@ -1,4 +1,5 @@
 -- What the reader does from a place on, over atoms, dot-atoms and quoted strings. Assumes nothing.
+use Rattle.std.specs.Prelude.{if◌then◌else◌}
 use mathlib.Core.Bool.{Bool, true, false, not, ◌||◌}
 use mathlib.Core.List.{List, [], ◌∷◌}
 use mathlib.Core.Path.{◌≡◌, refl, sym, ap, ◌∙◌}
@@ -9,7 +10,7 @@ use borrow.Author.Tests.{ne_eqb}
 use lib.Dec.{T, eqb}
 use lib.ListN.{length, drop, get_or, length-drop, drop_of_length-le}
 use lib.Seq.{drop-cons, drop-drop}
-use Rattle.rules.specs.Lists.{Stops, if◌then◌else◌, run}
+use Rattle.rules.specs.Lists.{Stops, run}
 use Rattle.rules.proofs.Lists.{nor, or_left}
 use Rattle.mailbox.specs.Grammar.{white_byte, atext, quote_text}
 use Rattle.mailbox.specs.Reader.{Half, State, home, names, some, quote, quote_taken, text as in-text, dotted, dead, step}

@@ -1,4 +1,5 @@
 -- Counting, one trailer at a time, and what a record of the walk asks for in the buffer. Assumes nothing.
+use Rattle.std.specs.Prelude.{if◌then◌else◌}
 use mathlib.Core.Bool.{Bool, true, false}
 use mathlib.Core.List.{List, [], ◌∷◌}
 use mathlib.Core.Path.{◌≡◌, refl, ap, ◌∙◌}
@@ -12,7 +13,7 @@ use Rattle.rules.proofs.Unfolded.{unfolded_short}
 use Rattle.rules.proofs.Walk.{Stands, those_place, walk_moves, walk_stands, walk_step}
 use Rattle.rules.specs.Bytes.{LF}
 use Rattle.rules.specs.Lines.{Line, before, folds, lines}
-use Rattle.rules.specs.Lists.{if◌then◌else◌, run}
+use Rattle.rules.specs.Lists.{run}
 use Rattle.rules.specs.Number.{line_feeds}
 use Rattle.rules.specs.Record.{part, places_of, value_of, written_of}
 use Rattle.rules.specs.Trailer.{Trailer, trailer, end_of, is_of, place_of, raw_value, trailer_line, unfolded, value_is_written, walk, walk_from}

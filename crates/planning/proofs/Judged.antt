@@ -1,4 +1,5 @@
 -- Where a listing begins, by its rows. Assumes nothing.
+use Rattle.std.specs.Prelude.{if◌then◌else◌}
 use mathlib.Core.Bool.{Bool, true, false}
 use mathlib.Core.List.{List, [], ◌∷◌, map}
 use mathlib.Core.Path.{◌≡◌, refl, sym, ap, ◌∙◌}
@@ -17,7 +18,6 @@ use Rattle.foot.proofs.Told.{foot_fits}
 use Rattle.foot.specs.Found.{foot_cursor, foot_start, lines_from}
 use Rattle.message.specs.Message.{walk_start}
 use Rattle.rules.specs.Answers.{Said, limit, number}
-use Rattle.rules.specs.Lists.{if◌then◌else◌}
 use Rattle.rules.specs.Number.{cursor_fits}
 use Rattle.rules.specs.Trailer.{walk_from}
 use Rattle.rules.specs.declared.Cursor.{Cursor}

@@ -1,4 +1,5 @@
 -- A message whose walk is refused is over the limit. Assumes nothing.
+use Rattle.std.specs.Prelude.{if◌then◌else◌}
 use mathlib.Core.Bool.{Bool, true, false, ◌||◌}
 use mathlib.Core.List.{List, []}
 use mathlib.Core.Path.{◌≡◌, refl, ap}
@@ -7,7 +8,6 @@ use native.Mathlib.Omega.{arith}
 use lib.Dec.{ltb}
 use lib.ListN.{length}
 use Rattle.rules.specs.Answers.{says, limit, number, refused, walk_found_says}
-use Rattle.rules.specs.Lists.{if◌then◌else◌}
 use Rattle.rules.specs.declared.Refusal.{Refusal}
 use Rattle.rules.specs.declared.WalkFound.{WalkFound}
 use Rattle.message.specs.Message.{walk_answer, walk_start}

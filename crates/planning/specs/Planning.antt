@@ -1,7 +1,6 @@
 -- What the parts of a listing answer.
-use Rattle.std.specs.Prelude.{Bool, true, List, [], ◌≡◌, ℕ, ◌+◌, ◌≤◌, length}
+use Rattle.std.specs.Prelude.{Bool, true, List, [], ◌≡◌, ℕ, ◌+◌, ◌≤◌, length, if◌then◌else◌}
 use Rattle.rules.specs.Answers.{Said, judged}
-use Rattle.rules.specs.Lists.{if◌then◌else◌}
 use Rattle.rules.specs.Trailer.{walk_from}
 use Rattle.rules.specs.declared.Cursor.{Cursor}
 use Rattle.rules.specs.declared.TrailerRef.{TrailerRef}

@@ -1,4 +1,5 @@
 -- What `read_trailer` answers of a trailer that stands in the body, as a call says it. Assumes nothing.
+use Rattle.std.specs.Prelude.{if◌then◌else◌}
 use mathlib.Core.Bool.{Bool, true, false}
 use mathlib.Core.List.{List, [], ◌∷◌}
 use mathlib.Core.Path.{◌≡◌, refl, ap, ◌∙◌}
@@ -10,7 +11,6 @@ use Rattle.rules.proofs.Record.{raw_is}
 use Rattle.rules.proofs.Walk.{Stands}
 use Rattle.rules.specs.Answers.{Said, says, afterwards, judged, no_room, refused}
 use Rattle.rules.specs.Lines.{ending}
-use Rattle.rules.specs.Lists.{if◌then◌else◌}
 use Rattle.rules.specs.Record.{fitted, part, places_of, record_at, record_of, value_of, written_of}
 use Rattle.rules.specs.Trailer.{Trailer, raw_value}
 use Rattle.rules.specs.declared.Ending.{Ending}

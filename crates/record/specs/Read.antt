@@ -1,7 +1,6 @@
 -- What is answered of a trailer: its record, or refusal 3.
-use Rattle.std.specs.Prelude.{List, ℕ, ltb, length}
+use Rattle.std.specs.Prelude.{List, ℕ, ltb, length, if◌then◌else◌}
 use Rattle.rules.specs.Lines.{ending}
-use Rattle.rules.specs.Lists.{if◌then◌else◌}
 use Rattle.rules.specs.Record.{record_at, record_of, written_of}
 use Rattle.rules.specs.Trailer.{Trailer, raw_value}
 use Rattle.rules.specs.declared.Places.{Places}

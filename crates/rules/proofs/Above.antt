@@ -1,6 +1,7 @@
 -- K12: nothing above reaches down. A blank line above the paragraph settles it, whatever stands above (settled), so lines above
 -- such a foot move its trailers on and change nothing else (trailers_below); told from the end, they are the same
 -- (nothing_reaches_down). Assumes nothing.
+use Rattle.std.specs.Prelude.{if◌then◌else◌}
 use mathlib.Core.Bool.{Bool, true, false, not, ◌||◌}
 use mathlib.Core.List.{List, [], ◌∷◌, ◌++◌, map}
 use mathlib.Core.Path.{◌≡◌, refl, sym, ap, ◌∙◌}
@@ -10,7 +11,7 @@ use lib.Dec.{T}
 use lib.ListN.{length, length-append}
 use Rattle.rules.specs.Above.{EndsIn, BlankThenNot, from_end, SameTrailers}
 use Rattle.rules.specs.Lines.{Line, LineStart, lines, blank}
-use Rattle.rules.specs.Lists.{if◌then◌else◌, any, join}
+use Rattle.rules.specs.Lists.{any, join}
 use Rattle.rules.specs.Paragraph.{Above, nothing, at_top, under, above_lines, Grouped, grouped_lines, solid, Body, empty, ended}
 use Rattle.rules.specs.Paragraph.{accepted, put, parse, trailers_of}
 use Rattle.rules.specs.Trailer.{Trailer, trailer, walk}

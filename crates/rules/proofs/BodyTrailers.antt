@@ -1,5 +1,6 @@
 -- The trailers of a body are those of its last paragraph where that is a block, and none otherwise (body_trailers): from the
 -- block's start on, nothing above the paragraph is a trailer line, and nothing below it is. Assumes nothing.
+use Rattle.std.specs.Prelude.{if◌then◌else◌}
 use mathlib.Core.Bool.{Bool, true, false, not}
 use mathlib.Core.List.{List, [], ◌∷◌, ◌++◌, append_assoc, append-nil}
 use mathlib.Core.Path.{◌≡◌, refl, sym, ap, ◌∙◌}
@@ -10,7 +11,7 @@ use lib.ListN.{length, drop, length-append}
 use lib.Seq.{drop_at}
 use Rattle.rules.specs.Bytes.{LF, CR, blank_byte}
 use Rattle.rules.specs.Lines.{Line, lines, text, blank, indented, folds}
-use Rattle.rules.specs.Lists.{if◌then◌else◌, All, Stops, join}
+use Rattle.rules.specs.Lists.{All, Stops, join}
 use Rattle.rules.specs.Paragraph.{Above, nothing, at_top, under, above_lines, IsAbove, Body, empty, ended, body_lines, IsBody}
 use Rattle.rules.specs.Paragraph.{grouped_lines, accepted, block_at, start_of, parse, block_start, trailers_of}
 use Rattle.rules.specs.Trailer.{Trailer, walk, walk_from}

@@ -1,5 +1,6 @@
 -- K2: a line is its text and its ending's bytes, in exactly one way (ended, ended_only, exactly_one_ending). The ending of a line is
 -- that of any bytes that end with it, so a trailer's raw value tells how its last line ended (raw_ending). Assumes nothing.
+use Rattle.std.specs.Prelude.{if◌then◌else◌}
 use mathlib.Core.Bool.{Bool, true, false, not}
 use mathlib.Core.List.{List, [], ◌∷◌, ◌++◌, append_assoc, append-nil}
 use mathlib.Core.Path.{◌≡◌, refl, sym, ap, subst, ◌∙◌}
@@ -7,7 +8,7 @@ use Prim.Native.Nat.{ℕ}
 use lib.Dec.{T, T_not, eqb, eqb→eq, eqb_refl}
 use Rattle.rules.specs.Bytes.{LF, CR, blank_byte, colon}
 use Rattle.rules.specs.Lines.{Line, Ended, bare, cr, crlf, lf, ending, ends_with, blank, indented, folds, text, without}
-use Rattle.rules.specs.Lists.{if◌then◌else◌, All, all, join}
+use Rattle.rules.specs.Lists.{All, all, join}
 use Rattle.rules.specs.Trailer.{gap_in, last_line, token_in, trailer_line, value_in}
 use Rattle.rules.specs.declared.Ending.{Ending}
 use Rattle.rules.proofs.Lists.{and_left, and_right, is_false, is_true}

@@ -1,5 +1,6 @@
 -- A trailer's raw value has more than one line just if folded lines stand under the trailer's first line, and one line holds at most one
 -- LF, its last byte: so where the first line ends tells whether a value is unfolded, and how many LFs are passed. Assumes nothing.
+use Rattle.std.specs.Prelude.{if◌then◌else◌}
 use mathlib.Core.Bool.{Bool, true, false, not}
 use mathlib.Core.List.{List, [], ◌∷◌, ◌++◌, append_assoc}
 use mathlib.Core.Path.{◌≡◌, refl, sym, ap, ◌∙◌}
@@ -11,7 +12,7 @@ use lib.ListN.{length, take, drop, get_or, length-append, length-drop}
 use lib.Seq.{get_or-drop, take-suc}
 use Rattle.rules.specs.Bytes.{LF, colon, gap_byte, token_byte}
 use Rattle.rules.specs.Lines.{Line, before, lines}
-use Rattle.rules.specs.Lists.{if◌then◌else◌, All, filled, join}
+use Rattle.rules.specs.Lists.{All, filled, join}
 use Rattle.rules.specs.Number.{line_feeds}
 use Rattle.rules.specs.Trailer.{trailer_line, token_in, gap_in, value_in, value_is_written}
 use Rattle.rules.proofs.Lines.{filled-lines}

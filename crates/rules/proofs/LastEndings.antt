@@ -1,12 +1,13 @@
 -- How the last non-blank line of a body ended: exactly one answer, and one line more below, as a scan from the end sees it.
 -- Assumes nothing.
+use Rattle.std.specs.Prelude.{if◌then◌else◌}
 use mathlib.Core.Bool.{Bool, true, false}
 use mathlib.Core.List.{List, [], ◌∷◌, ◌++◌}
 use mathlib.Core.Option.{Option, none, some}
 use mathlib.Core.Path.{◌≡◌, refl, sym, ap, ◌∙◌}
 use lib.Dec.{T}
 use Rattle.rules.specs.Lines.{Line, blank, ending}
-use Rattle.rules.specs.Lists.{if◌then◌else◌, All}
+use Rattle.rules.specs.Lists.{All}
 use Rattle.rules.specs.Paragraph.{LastEnding, last, nowhere, ending_under, last_ending, solid}
 use Rattle.rules.specs.declared.Ending.{Ending}
 use Rattle.rules.proofs.Lists.{is_true}

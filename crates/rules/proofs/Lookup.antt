@@ -1,11 +1,12 @@
 -- The named lookup: exactly one answer belongs to a name and a walk, and it is `lookup`. Assumes nothing.
+use Rattle.std.specs.Prelude.{if◌then◌else◌}
 use mathlib.Core.Bool.{Bool, true, false}
 use mathlib.Core.List.{List, [], ◌∷◌, ◌++◌}
 use mathlib.Core.Option.{Option, none, some}
 use mathlib.Core.Path.{◌≡◌, refl, sym, ap, ◌∙◌}
 use Prim.Native.Nat.{ℕ}
 use lib.Dec.{T}
-use Rattle.rules.specs.Lists.{if◌then◌else◌, All}
+use Rattle.rules.specs.Lists.{All}
 use Rattle.rules.specs.Trailer.{Trailer, token_of, asked, finally, lacks, last, lookup, nowhere, Looked, those}
 use Rattle.rules.proofs.Lists.{is_false, is_true}
 

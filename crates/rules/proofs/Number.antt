@@ -1,5 +1,6 @@
 -- Line numbers. A number counted on from a right one is right, and a line's start has one more than the lines before it. The numbers
 -- of a walk rise strictly from every position, through filters and through blocks (numbers_rise, numbers_rise_in_blocks). Assumes nothing.
+use Rattle.std.specs.Prelude.{if◌then◌else◌}
 use mathlib.Core.Bool.{Bool, true, false, false≢true, and-true, ◌&&◌}
 use mathlib.Core.List.{List, [], ◌∷◌, ◌++◌, nil≢cons}
 use mathlib.Core.Path.{◌≡◌, refl, sym, ap, ◌∙◌}
@@ -13,7 +14,7 @@ use Rattle.rules.specs.Answers.{place_fits}
 use Rattle.rules.specs.Bytes.{LF}
 use Rattle.rules.specs.Division.{blocks, walk_parts}
 use Rattle.rules.specs.Lines.{Line, LineStart, lines, before, folds}
-use Rattle.rules.specs.Lists.{if◌then◌else◌, filled, join, run}
+use Rattle.rules.specs.Lists.{filled, join, run}
 use Rattle.rules.specs.Number.{Right, Rises, cursor_at, cursor_fits, line_feeds, line_number, moved_on, numbers}
 use Rattle.rules.specs.Title.{body, body_start}
 use Rattle.rules.specs.Trailer.{Trailer, trailer, trailer_line, place_of, token_of, is_of, only, walk, walk_from}

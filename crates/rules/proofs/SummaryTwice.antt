@@ -1,5 +1,6 @@
 -- K9: a summary has no LF (summary_no_lf), is its own trim (summary_trims), and summarising it changes nothing (summary_twice).
 -- Assumes nothing.
+use Rattle.std.specs.Prelude.{if◌then◌else◌}
 use mathlib.Core.Bool.{Bool, true, false, not, ◌&&◌, ◌||◌}
 use mathlib.Core.List.{List, [], ◌∷◌, ◌++◌, map, append_assoc, append-nil}
 use mathlib.Core.Logic.{inl, inr}
@@ -8,7 +9,7 @@ use Prim.Native.Nat.{ℕ}
 use lib.Dec.{T, eqb, eqb→eq}
 use Rattle.rules.specs.Bytes.{LF, space, blank_byte}
 use Rattle.rules.specs.Lines.{inner}
-use Rattle.rules.specs.Lists.{if◌then◌else◌, All, any, all, filled, join}
+use Rattle.rules.specs.Lists.{All, any, all, filled, join}
 use Rattle.rules.specs.Summary.{ahead, pieces, drop_blanks, folded, added, stops, up_to, spaced, summary, summary_is_written}
 use Rattle.rules.specs.White.{white_space, forms, Form, trim, trim_at, trim_end}
 use Rattle.rules.proofs.Lists.{all_append, all_left, filled-append, nor, or_cases, is_false}

@@ -1,9 +1,8 @@
 -- Line numbers: document 02, K8. "Every trailer record [..] must carry the number of the message line where the trailer starts,
 -- counted from 1, the title's lines included. Calls given a bare body count from its first line".
-use Rattle.std.specs.Prelude.{Bool, ◌&&◌, List, [], ◌∷◌, map, ◌≡◌, ℕ, suc, ◌+◌, ◌-◌, ◌<◌, eqb, leb, take, drop}
+use Rattle.std.specs.Prelude.{Bool, ◌&&◌, List, [], ◌∷◌, map, ◌≡◌, ℕ, suc, ◌+◌, ◌-◌, ◌<◌, eqb, leb, take, drop, if◌then◌else◌}
 use Rattle.rules.specs.Answers.{place_fits}
 use Rattle.rules.specs.Bytes.{LF}
-use Rattle.rules.specs.Lists.{if◌then◌else◌}
 use Rattle.rules.specs.Trailer.{Trailer, place_of}
 use Rattle.rules.specs.declared.Cursor.{Cursor}
 

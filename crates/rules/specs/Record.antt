@@ -1,7 +1,6 @@
 -- The record of a trailer, and where its value stands: document 01, "Trailer lines and values". Every call that answers a trailer
 -- answers this record.
-use Rattle.std.specs.Prelude.{List, [], ◌++◌, ℕ, ◌+◌, ltb, length, drop}
-use Rattle.rules.specs.Lists.{if◌then◌else◌}
+use Rattle.std.specs.Prelude.{List, [], ◌++◌, ℕ, ◌+◌, ltb, length, drop, if◌then◌else◌}
 use Rattle.rules.specs.Trailer.{Trailer, place_of, end_of, first_end_of, ending_of, token_of, raw_value, raw_value_at, unfolded, value_is_written}
 use Rattle.rules.specs.White.{trim, trim_at}
 use Rattle.rules.specs.declared.Ending.{Ending}

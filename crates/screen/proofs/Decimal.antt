@@ -1,5 +1,6 @@
 -- The decimal of a number: it is the only one without needless zeros (decimal_is, decimal_only), it is what the library's `decimal`
 -- writes (fewest_is), and it is short (decimal_short). Assumes nothing.
+use Rattle.std.specs.Prelude.{if◌then◌else◌}
 use mathlib.Core.Bool.{Bool, true, false}
 use mathlib.Core.List.{List, [], ◌∷◌, ◌++◌}
 use mathlib.Core.Path.{◌≡◌, refl, sym, subst}
@@ -12,7 +13,6 @@ use lib.ListN.{length, length-append}
 use Rattle.closing.specs.Contents.{Decimal, digit, one, more}
 use Rattle.closing.proofs.Contents.{one_decimal}
 use Rattle.io.specs.Digits.{IsDigitCount, last_digits, hex_digit_ascii}
-use Rattle.rules.specs.Lists.{if◌then◌else◌}
 use Rattle.screen.specs.Listing.{decimal, digits_of}
 
 -- ---- one digit

@@ -1,9 +1,9 @@
 -- The listing of a message as text: document 01, "Examples by number". "The lister reads one message [..]. For
 -- `t\n\nx\n\nVehicle: 7\nRecords: 318,\n 22 late\n` it prints exactly, each line with LF: `trailers 2`, `Vehicle: 7`,
 -- `Records: 318, 22 late`."
-use Rattle.std.specs.Prelude.{List, [], ◌∷◌, ◌++◌, map, ℕ, zero, suc, ◌+◌, ◌/◌, ◌%◌, ltb, length}
+use Rattle.std.specs.Prelude.{List, [], ◌∷◌, ◌++◌, map, ℕ, zero, suc, ◌+◌, ◌/◌, ◌%◌, ltb, length, if◌then◌else◌}
 use Rattle.rules.specs.Bytes.{LF, bytes}
-use Rattle.rules.specs.Lists.{if◌then◌else◌, join}
+use Rattle.rules.specs.Lists.{join}
 use Rattle.rules.specs.Trailer.{Trailer, token_of, raw_value, unfolded, walk_from}
 use Rattle.message.specs.Message.{walk_start}
 

@@ -1,4 +1,5 @@
 -- The contracts decide: two ends of which one of them holds are the same. Assumes nothing.
+use Rattle.std.specs.Prelude.{if◌then◌else◌}
 use mathlib.Core.Bool.{Bool, true, false}
 use mathlib.Core.List.{List, [], ◌∷◌}
 use mathlib.Core.Path.{◌≡◌, refl, sym, ap, ◌∙◌}
@@ -7,7 +8,6 @@ use native.Mathlib.Omega.{arith}
 use borrow.Author.Tests.{le-ltb}
 use lib.Dec.{T_not, eqb, eqb→eq, ltb}
 use lib.ListN.{drop}
-use Rattle.rules.specs.Lists.{if◌then◌else◌}
 use Rattle.mailbox.specs.Grammar.{refused}
 use Rattle.mailbox.specs.Reader.{Half, Home, State, local, domain, home, opened, closed, sign_of, next}
 use Rattle.comment.specs.Ends.{Watch, Stopped, stopped, answered, until, end}

@@ -1,5 +1,6 @@
 -- What the reader does from a place on, step by step of the functions: over the words up to the `<`, over each half of the address,
 -- and over what is behind the `>`. Assumes nothing.
+use Rattle.std.specs.Prelude.{if◌then◌else◌}
 use mathlib.Core.Bool.{Bool, true, false, not, ◌||◌}
 use mathlib.Core.List.{List, [], ◌∷◌}
 use mathlib.Core.Logic.{◌⊎◌, inl, inr}
@@ -12,7 +13,7 @@ use lib.Dec.{T, eqb, eqb→eq}
 use lib.ListN.{length, drop, get_or, drop_of_length-le}
 use lib.Seq.{drop-cons}
 use Rattle.rules.specs.Answers.{says}
-use Rattle.rules.specs.Lists.{Stops, if◌then◌else◌, run}
+use Rattle.rules.specs.Lists.{Stops, run}
 use Rattle.rules.proofs.Lists.{is_false, nor}
 use Rattle.mailbox.specs.Answers.{answer_says}
 use Rattle.mailbox.specs.Grammar.{white_byte, atext, Answer, accepted, refused, ranges, deepest}

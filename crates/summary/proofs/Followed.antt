@@ -1,4 +1,5 @@
 -- Bytes that an LF directly follows, searched by runs and byte by byte. Assumes nothing.
+use Rattle.std.specs.Prelude.{if◌then◌else◌}
 use mathlib.Core.Bool.{Bool, true, false, and-false, not, ◌&&◌, ◌||◌}
 use mathlib.Core.List.{List, [], ◌∷◌}
 use mathlib.Core.Path.{◌≡◌, refl, sym, ◌∙◌}
@@ -10,7 +11,7 @@ use lib.Dec.{eqb}
 use lib.ListN.{length, take, drop, get_or, length-drop}
 use lib.Seq.{drop-cons, drop-drop}
 use Rattle.rules.specs.Bytes.{LF, within}
-use Rattle.rules.specs.Lists.{if◌then◌else◌, run}
+use Rattle.rules.specs.Lists.{run}
 use Rattle.rules.proofs.Lists.{or_none}
 use Rattle.rules.proofs.Parts.{rest}
 use Rattle.find.specs.Find.{is_lf, until_lf}

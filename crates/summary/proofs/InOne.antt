@@ -1,6 +1,7 @@
 -- What the pieces of a text add up to, byte by byte: an LF becomes a space, and a blank goes where only blanks stand between it and the next
 -- LF (in_one). So nothing goes where no blank stands before an LF (in_one_plain), and a front that ends in no blank is put in one line by
 -- itself (in_one-append). Assumes nothing.
+use Rattle.std.specs.Prelude.{if◌then◌else◌}
 use mathlib.Core.Bool.{Bool, true, false, false≢true, and-false, ◌&&◌, ◌||◌}
 use mathlib.Core.List.{List, [], ◌∷◌, ◌++◌}
 use mathlib.Core.Path.{◌≡◌, refl, sym, ap, ◌∙◌}
@@ -9,7 +10,7 @@ use native.Mathlib.Omega.{arith}
 use lib.Dec.{eqb}
 use lib.ListN.{length}
 use Rattle.rules.specs.Bytes.{LF, space, blank_byte}
-use Rattle.rules.specs.Lists.{if◌then◌else◌, all, Ends}
+use Rattle.rules.specs.Lists.{all, Ends}
 use Rattle.rules.specs.Summary.{added, ahead, drop_blanks, folded, pieces}
 use Rattle.rules.proofs.Lists.{is_false}
 use Rattle.summary.specs.Followed.{any_followed}

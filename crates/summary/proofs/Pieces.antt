@@ -1,4 +1,5 @@
 -- The pieces of an input one after the other, by the places of the LFs. Assumes nothing.
+use Rattle.std.specs.Prelude.{if◌then◌else◌}
 use mathlib.Core.Bool.{Bool, true, false, not}
 use mathlib.Core.List.{List, [], ◌∷◌, ◌++◌}
 use mathlib.Core.Path.{◌≡◌, refl, ap}
@@ -9,7 +10,7 @@ use lib.ListN.{length, take, drop, length-append, length-drop}
 use lib.Seq.{length-take-le, drop-drop}
 use Rattle.rules.specs.Bytes.{LF}
 use Rattle.rules.specs.Lines.{inner}
-use Rattle.rules.specs.Lists.{if◌then◌else◌, run}
+use Rattle.rules.specs.Lists.{run}
 use Rattle.rules.specs.Summary.{added, ahead, folded, pieces}
 use Rattle.rules.proofs.Lists.{run_past}
 

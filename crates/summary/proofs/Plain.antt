@@ -1,4 +1,5 @@
 -- What the first byte up to the space tells that an LF follows: before it no summary stops, and no blank goes. Assumes nothing.
+use Rattle.std.specs.Prelude.{if◌then◌else◌}
 use mathlib.Core.Bool.{Bool, true, false, not, and-false, or-true, ◌&&◌, ◌||◌}
 use mathlib.Core.List.{List, [], ◌∷◌}
 use mathlib.Core.Path.{◌≡◌, refl, sym, ap, ◌∙◌}
@@ -11,7 +12,7 @@ use lib.Dec.{eqb, leb}
 use lib.ListN.{length, take, drop, get_or}
 use lib.Seq.{drop-drop, get_or-take, length-take-le}
 use Rattle.rules.specs.Bytes.{LF, within}
-use Rattle.rules.specs.Lists.{if◌then◌else◌, run}
+use Rattle.rules.specs.Lists.{run}
 use Rattle.find.specs.Find.{is_lf, until_lf}
 use Rattle.summary.specs.Followed.{any_followed, followed, until_followed}
 use Rattle.summary.proofs.Followed.{run_front}

@@ -1,5 +1,6 @@
 -- Where a summary stops: of a message that is trimmed, it is what the pieces of its front add up to, up to where an LF directly follows an LF
 -- and without the white space at the end (summary_stop). Assumes nothing.
+use Rattle.std.specs.Prelude.{if◌then◌else◌}
 use mathlib.Core.Bool.{Bool, true, false, false≢true, not, ◌&&◌}
 use mathlib.Core.List.{List, [], ◌∷◌, ◌++◌, map, append_assoc}
 use mathlib.Core.Path.{◌≡◌, refl, sym, ap, subst, ◌∙◌}
@@ -11,7 +12,7 @@ use lib.Dec.{T, eqb, leb, leb→le}
 use lib.ListN.{length, take, drop, length-append}
 use lib.Seq.{length-take-le, take-take, take-append_seam}
 use Rattle.rules.specs.Bytes.{LF, space, blank_byte, within}
-use Rattle.rules.specs.Lists.{if◌then◌else◌, All, Ends, join, run}
+use Rattle.rules.specs.Lists.{All, Ends, join, run}
 use Rattle.rules.specs.Summary.{added, ahead, folded, pieces, spaced, stops, up_to}
 use Rattle.rules.specs.White.{Form, White, none, more, trim, trim_end}
 use Rattle.rules.proofs.Lists.{is_false}

@@ -1,7 +1,6 @@
 -- Bytes that an LF directly follows: two LFs, where a summary stops, and a blank before an LF, which goes.
-use Rattle.std.specs.Prelude.{Bool, false, ◌&&◌, ◌||◌, List, [], ◌∷◌, ℕ, suc, eqb}
+use Rattle.std.specs.Prelude.{Bool, false, ◌&&◌, ◌||◌, List, [], ◌∷◌, ℕ, suc, eqb, if◌then◌else◌}
 use Rattle.rules.specs.Bytes.{LF, within}
-use Rattle.rules.specs.Lists.{if◌then◌else◌}
 
 -- a byte is from `low` to `high`, and the next one is an LF
 abbrev pub followed : ℕ → ℕ → ℕ → ℕ → Bool

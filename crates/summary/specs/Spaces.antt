@@ -1,7 +1,6 @@
 -- A message with a space for each LF.
-use Rattle.std.specs.Prelude.{List, map, ℕ, eqb}
+use Rattle.std.specs.Prelude.{List, map, ℕ, eqb, if◌then◌else◌}
 use Rattle.rules.specs.Bytes.{LF, space}
-use Rattle.rules.specs.Lists.{if◌then◌else◌}
 
 abbrev pub space_for_lf : ℕ → ℕ
 space_for_lf c = if eqb c LF then space else c

@@ -1,5 +1,6 @@
 -- Lines for those who walk them by `line_len` and `line_start`: the first line and the lines behind it, the last line and the
 -- lines before it; and a blank line is known by its bytes, with its ending or without. Assumes nothing.
+use Rattle.std.specs.Prelude.{if◌then◌else◌}
 use mathlib.Core.Bool.{Bool, true, false, not}
 use mathlib.Core.List.{List, [], ◌∷◌, ◌++◌}
 use mathlib.Core.Path.{◌≡◌, refl, sym, ap, ◌∙◌}
@@ -11,7 +12,7 @@ use lib.ListN.{length, take, drop, get_or, length-append, length-drop, drop_of_l
 use lib.Seq.{take-append_seam, drop-append_seam, take-suc, length-take-le, drop-append-le, take-take, drop-drop}
 use Rattle.rules.specs.Bytes.{LF, CR, blank_byte}
 use Rattle.rules.specs.Lines.{Line, inner, LineStart, without, text, blank, before, lines}
-use Rattle.rules.specs.Lists.{if◌then◌else◌, All, all, join, run}
+use Rattle.rules.specs.Lists.{All, all, join, run}
 use Rattle.rules.proofs.Lists.{is_false, all_append}
 use Rattle.rules.proofs.Lines.{join-lines, lines_suffix, lines_from}
 use Rattle.find.specs.Find.{behind_lf, is_lf, until_lf}

@@ -1,4 +1,5 @@
 -- What `trailer_at_start` answers, by what `parse_trailer_line` answers of all that is handed on. Assumes nothing.
+use Rattle.std.specs.Prelude.{if◌then◌else◌}
 use mathlib.Core.Bool.{Bool, true, false}
 use mathlib.Core.List.{List, [], ◌∷◌}
 use mathlib.Core.Path.{◌≡◌, refl, sym, ap, ◌∙◌}
@@ -10,7 +11,7 @@ use lib.ListN.{length, take, drop, get_or, length-append, length-drop}
 use lib.Seq.{drop-cons}
 use Rattle.rules.specs.Bytes.{token_byte}
 use Rattle.rules.specs.Lines.{Line, folds, lines}
-use Rattle.rules.specs.Lists.{if◌then◌else◌, join, run}
+use Rattle.rules.specs.Lists.{join, run}
 use Rattle.rules.specs.Trailer.{named, trailer_line, token_in, gap_in}
 use Rattle.rules.proofs.Lines.{join-lines}
 use Rattle.rules.proofs.Lists.{run_shorter}

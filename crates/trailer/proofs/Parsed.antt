@@ -1,5 +1,6 @@
 -- What `parse_trailer_line` answers: of a line, by what stands where its token and the gap behind it end; and of all that
 -- follows a line's start as of the line, since no LF stands up to the colon (parsed_front). Assumes nothing.
+use Rattle.std.specs.Prelude.{if◌then◌else◌}
 use mathlib.Core.Bool.{Bool, true, false}
 use mathlib.Core.List.{List, [], ◌∷◌, ◌++◌, nil≢cons}
 use mathlib.Core.Path.{◌≡◌, refl, sym, ◌∙◌}
@@ -11,7 +12,7 @@ use lib.ListN.{length, drop, get_or, drop_of_length-le, length-drop}
 use lib.Seq.{drop-cons, drop-drop}
 use Rattle.rules.specs.Bytes.{LF, colon, gap_byte, token_byte}
 use Rattle.rules.specs.Lines.{Line, LinesOf, none, last, line, lines}
-use Rattle.rules.specs.Lists.{if◌then◌else◌, first, past, run}
+use Rattle.rules.specs.Lists.{first, past, run}
 use Rattle.rules.specs.Trailer.{named, coloned, trailer_line, token_in, gap_in}
 use Rattle.rules.proofs.Lines.{lines_of}
 use Rattle.trailer.specs.Line.{parsed}

@@ -1,4 +1,5 @@
 -- The longest run of bytes that pass a test, found byte by byte. Assumes nothing.
+use Rattle.std.specs.Prelude.{if◌then◌else◌}
 use mathlib.Core.Bool.{Bool, true, false, not}
 use mathlib.Core.List.{List, [], ◌∷◌}
 use mathlib.Core.Path.{◌≡◌, refl, sym, ap, ◌∙◌}
@@ -9,7 +10,7 @@ use borrow.Author.Tests.{ne_eqb}
 use lib.Dec.{eqb}
 use lib.ListN.{length, drop, get_or, drop_of_length-le}
 use lib.Seq.{drop-cons, drop-append_seam}
-use Rattle.rules.specs.Lists.{if◌then◌else◌, first, past, run}
+use Rattle.rules.specs.Lists.{first, past, run}
 use Rattle.rules.proofs.Lists.{run_past}
 
 module _ (p : ℕ → Bool) (s : List ℕ) where

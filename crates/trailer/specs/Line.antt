@@ -1,7 +1,7 @@
 -- The answers about a trailer line, and about the trailer that begins at a line's start.
-use Rattle.std.specs.Prelude.{List, [], ◌∷◌, ◌+◌, length}
+use Rattle.std.specs.Prelude.{List, [], ◌∷◌, ◌+◌, length, if◌then◌else◌}
 use Rattle.rules.specs.Lines.{Line, folds}
-use Rattle.rules.specs.Lists.{if◌then◌else◌, join, run}
+use Rattle.rules.specs.Lists.{join, run}
 use Rattle.rules.specs.Trailer.{trailer_line, token_in, gap_in}
 use Rattle.trailer.specs.declared.line.TrailerAtStart.{TrailerAtStart}
 use Rattle.trailer.specs.declared.line.TrailerLine.{TrailerLine}

@@ -1,6 +1,5 @@
 -- The length of a value that is unfolded line by line.
-use Rattle.std.specs.Prelude.{ℕ, ◌+◌, eqb}
-use Rattle.rules.specs.Lists.{if◌then◌else◌}
+use Rattle.std.specs.Prelude.{ℕ, ◌+◌, eqb, if◌then◌else◌}
 
 -- of two pieces joined by one space, an empty one dropped
 abbrev pub joined_length : ℕ → ℕ → ℕ

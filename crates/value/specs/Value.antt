@@ -1,6 +1,5 @@
 -- What is answered of a raw value.
-use Rattle.std.specs.Prelude.{List, ℕ, ltb, length}
-use Rattle.rules.specs.Lists.{if◌then◌else◌}
+use Rattle.std.specs.Prelude.{List, ℕ, ltb, length, if◌then◌else◌}
 use Rattle.rules.specs.Record.{value_of, written_of}
 use Rattle.rules.specs.declared.Refusal.{Refusal}
 use Rattle.rules.specs.declared.ValueFound.{ValueFound}

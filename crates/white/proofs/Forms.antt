@@ -1,4 +1,5 @@
 -- How long a form is, and what its last byte says of that: the laws that the scans go by. Assumes nothing.
+use Rattle.std.specs.Prelude.{if◌then◌else◌}
 use mathlib.Core.Bool.{Bool, false}
 use mathlib.Core.List.{List, [], ◌∷◌, ◌++◌}
 use mathlib.Core.Path.{◌≡◌, refl, ap}
@@ -9,7 +10,7 @@ use borrow.Author.Tests.{ne_eqb, lt-ltb, le-ltb}
 use lib.Dec.{T, eqb, leb, ltb, eqb→eq, leb→le, ltb→lt}
 use lib.ListN.{length, drop, get_or, length-append}
 use lib.Seq.{get_or-drop}
-use Rattle.rules.specs.Lists.{if◌then◌else◌, all}
+use Rattle.rules.specs.Lists.{all}
 use Rattle.rules.specs.White.{white_space, forms, Form, form_at}
 use Rattle.rules.proofs.Lists.{filled_some}
 use Rattle.rules.proofs.White.{form, bare, form_at_lem, form_filled, passes}

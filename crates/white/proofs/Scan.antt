@@ -1,5 +1,6 @@
 -- The form at the end of an input, and the scans from the front and from the end: the laws that `white_len_last`, `trim_start`,
 -- `trim_end` and `trim` of src/white.rt go by. Assumes nothing.
+use Rattle.std.specs.Prelude.{if◌then◌else◌}
 use mathlib.Core.Bool.{Bool, true, false, false≢true, ◌&&◌}
 use mathlib.Core.List.{List, [], ◌∷◌, ◌++◌, append-nil}
 use mathlib.Core.Path.{◌≡◌, refl, sym, ap, ◌∙◌}
@@ -9,7 +10,7 @@ use borrow.Author.Tests.{eq-eqb, ne_eqb, eqb-true, ltb-true}
 use lib.Dec.{T, eqb, leb, leb→le, ltb, not_T}
 use lib.ListN.{length, take, drop, get_or, length-append, length-drop, take-append-drop}
 use lib.Seq.{drop-append_seam, drop-drop, get_or-drop, get_or-take, length-take-le, take_all, take-append_seam, take-take}
-use Rattle.rules.specs.Lists.{if◌then◌else◌, filled}
+use Rattle.rules.specs.Lists.{filled}
 use Rattle.rules.specs.White.{white_space, Form, form_at, trim_start, trim_end, trim, trim_at}
 use Rattle.rules.proofs.Lists.{filled_some, is_false, is_true}
 use Rattle.rules.proofs.White.{EndsWithNone, form, bare, form_at_lem, form_filled, form_length, front_trimmed}

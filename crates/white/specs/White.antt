@@ -1,8 +1,7 @@
 -- A code point read from the front of an input, and a form at the end of one. What the lengths found have to do with the forms
 -- is proved (proofs/Utf8, found and passed; proofs/Scan, form_end_lem).
-use Rattle.std.specs.Prelude.{Bool, ◌&&◌, List, ◌++◌, ◌≡◌, ℕ, ◌-◌, ◌<◌, eqb, leb, ltb, length, drop, get_or}
+use Rattle.std.specs.Prelude.{Bool, ◌&&◌, List, ◌++◌, ◌≡◌, ℕ, ◌-◌, ◌<◌, eqb, leb, ltb, length, drop, get_or, if◌then◌else◌}
 use Rattle.rules.specs.Bytes.{within}
-use Rattle.rules.specs.Lists.{if◌then◌else◌}
 use Rattle.rules.specs.White.{utf8, form_at}
 
 -- the six bits that a continuation byte carries (RFC 3629, section 3: 10xxxxxx); 64 where the byte is none

@@ -1,4 +1,5 @@
 -- `numbering::move_over` meets its contract. Assumes nothing.
+use Rattle.std.specs.Prelude.{if◌then◌else◌}
 use mathlib.Core.Path.{◌≡◌, sym, ap, ◌∙◌}
 use Prim.Native.Nat.{ℕ, ◌+◌, ◌-◌}
 use native.Mathlib.Omega.{arith}
@@ -8,7 +9,6 @@ use lib.ListN.{length, take, drop, get_or}
 use Rattle.rules.proofs.Folded.{last_feed}
 use Rattle.rules.specs.Bytes.{LF}
 use Rattle.rules.specs.Lines.{lines}
-use Rattle.rules.specs.Lists.{if◌then◌else◌}
 use Rattle.rules.specs.Number.{line_feeds}
 use Rattle.numbering.proofs.move_over.Goals as goal
 use Rattle.numbering.proofs.move_over.Goals.{Else-first-at}
