@@ -5,17 +5,19 @@
 ghost use Rattle.std.specs.Prelude.{◌≤◌, length};
 
 use adding::{TrailerAdded, add_trailer};
-use libc::{STDERR_FILENO, STDIN_FILENO, STDOUT_FILENO};
+use console::{large_buffer, read_full, write_all};
+use std::io::Write;
 
 // Where there are more than 49,152 bytes, says only `too long`. A read that fails counts as the end.
-fn main() {
-    let mut space = io::large_buffer();
-    let len = io::read_full(STDIN_FILENO, &mut space);
+fn main(rt: HostRuntime) {
+    let mut space = large_buffer();
+    let len = read_full(&mut rt.stdin(), &mut space);
+    let mut errors = rt.stderr();
     if len > 49_152 {
-        io::write_all(STDERR_FILENO, b"too long\n");
+        write_all(&mut errors, b"too long\n");
         return;
     }
-    add(&space[..len]);
+    add(&mut rt.stdout(), &mut errors, &space[..len]);
 }
 
 // The place of the first NUL from `at` on; the end where there is none.
@@ -45,46 +47,48 @@ fn behind(input: &[u8], at: usize) -> usize
 }
 
 // Prints the message with the trailer added, or why it is refused.
-fn print_added(message: &[u8], token: &[u8], value: &[u8]) {
-    let mut out = io::large_buffer();
-    match add_trailer(message, token, value, &mut out) {
+fn print_added<W: Write, E: Write>(
+    out: &mut W,
+    errors: &mut E,
+    message: &[u8],
+    token: &[u8],
+    value: &[u8],
+) {
+    let mut new = large_buffer();
+    match add_trailer(message, token, value, &mut new) {
         TrailerAdded::Length(len) => {
-            io::write_all(STDOUT_FILENO, &out[..len]);
+            write_all(out, &new[..len]);
         }
         TrailerAdded::TooLong => {
-            io::write_all(STDERR_FILENO, b"too long\n");
+            write_all(errors, b"too long\n");
         }
         TrailerAdded::BadToken => {
-            io::write_all(
-                STDERR_FILENO,
-                b"the token is not letters, digits or hyphens\n",
-            );
+            write_all(errors, b"the token is not letters, digits or hyphens\n");
         }
         TrailerAdded::BadValue => {
-            io::write_all(
-                STDERR_FILENO,
+            write_all(
+                errors,
                 b"the value has a line feed, or white space at an end\n",
             );
         }
         TrailerAdded::NothingToStandOn => {
-            io::write_all(
-                STDERR_FILENO,
-                b"the message has no line that is not blank\n",
-            );
+            write_all(errors, b"the message has no line that is not blank\n");
         }
         TrailerAdded::NoRoom(_) => {
-            io::write_all(STDERR_FILENO, b"too long\n");
+            write_all(errors, b"too long\n");
         }
     }
 }
 
 // Adds the trailer that the input names to the message behind it.
-fn add(input: &[u8]) {
+fn add<W: Write, E: Write>(out: &mut W, errors: &mut E, input: &[u8]) {
     let token_end = find_nul(input, 0);
     let value_start = behind(input, token_end);
     let value_end = find_nul(input, value_start);
     let start = behind(input, value_end);
     print_added(
+        out,
+        errors,
         &input[start..],
         &input[..token_end],
         &input[value_start..value_end],

@@ -2,17 +2,18 @@
 // first argument says.
 #![tactic(auto)]
 
-use libc::{STDIN_FILENO, STDOUT_FILENO};
+use console::{arg, buffer, large_buffer, read_full, write_all};
 
 // Where there are more than 32,768 bytes, prints only `too long`. A read that fails counts as the end.
-fn main() {
-    let mut word = io::buffer();
-    let word_len = os::arg(1, &mut word);
-    let mut space = io::large_buffer();
-    let len = io::read_full(STDIN_FILENO, &mut space);
+fn main(rt: HostRuntime) {
+    let mut word = buffer();
+    let word_len = arg(&rt, 1, &mut word);
+    let mut space = large_buffer();
+    let len = read_full(&mut rt.stdin(), &mut space);
+    let mut out = rt.stdout();
     if len > 32_768 {
-        io::write_all(STDOUT_FILENO, b"too long\n");
+        write_all(&mut out, b"too long\n");
         return;
     }
-    noting::close(&space[..len], &word[..word_len]);
+    noting::close(&mut out, &space[..len], &word[..word_len]);
 }

@@ -5,35 +5,37 @@
 ghost use Rattle.std.specs.Prelude.{◌≤◌, length};
 
 use commit::MessageFound;
-use libc::{STDIN_FILENO, STDOUT_FILENO};
+use console::{large_buffer, print_decimal, read_full, write_all};
 use object::commit_message;
 use printing::print_listing;
 use rules::Value;
+use std::io::Write;
 use view::value_of;
 
 // Where there are more than 32,768 bytes, prints only `too long`. A read that fails counts as the end.
-fn main() {
-    let mut space = io::large_buffer();
-    let len = io::read_full(STDIN_FILENO, &mut space);
+fn main(rt: HostRuntime) {
+    let mut space = large_buffer();
+    let len = read_full(&mut rt.stdin(), &mut space);
+    let mut out = rt.stdout();
     if len > 32_768 {
-        io::write_all(STDOUT_FILENO, b"too long\n");
+        write_all(&mut out, b"too long\n");
         return;
     }
-    list_commit(&space[..len]);
+    list_commit(&mut out, &space[..len]);
 }
 
 // Prints the listing of the message, or the number of the line at which the header is refused.
-fn list_commit(content: &[u8])
+fn list_commit<W: Write>(out: &mut W, content: &[u8])
     requires { length content.now ≤ 32768 }
 {
     match commit_message(content) {
         MessageFound::Message(message) => {
-            print_listing(value_of(content, content, Value::InInput(message)));
+            print_listing(out, value_of(content, content, Value::InInput(message)));
         }
         MessageFound::BadHeader { line } => {
-            io::write_all(STDOUT_FILENO, b"bad header, line ");
-            io::print_decimal(STDOUT_FILENO, line as u64);
-            io::write_all(STDOUT_FILENO, b"\n");
+            write_all(out, b"bad header, line ");
+            print_decimal(out, line as u64);
+            write_all(out, b"\n");
         }
         MessageFound::TooLong => {}
     }

@@ -1,6 +1,6 @@
 // Prints the reading of the message on standard input.
 #![tactic(auto)]
 
-fn main() {
-    explaining::explain(libc::STDIN_FILENO);
+fn main(rt: HostRuntime) {
+    explaining::explain(&mut rt.stdin(), &mut rt.stdout());
 }

@@ -8,19 +8,20 @@ ghost use Rattle.explaining.specs.Kinds.{forgives, kind_of, kind_of_indented};
 ghost use Rattle.explaining.specs.Verdicts.{verdict_of};
 
 use block::{NextBlock, next_block_from};
+use console::{large_buffer, print_decimal, read_full, write_all};
 use dividing::print_divider;
-use libc::STDOUT_FILENO;
 use paragraph::{
     accepts_as_trailer_block, is_recognized_prefix, last_paragraph, trailer_block_start,
 };
 use rules::Ending;
 use signers::print_trailers;
+use std::io::{Read, Write};
 use text::line::{is_blank_line, is_indented, line_len, trim_line_ending};
 use title::title_and_body;
 use trailer::line::{TrailerLine, parse_trailer_line};
 
 // What a line of the last paragraph is.
-#[derive(Drop)]
+#[derive(Clone, Copy)]
 pub enum LineKind {
     Recognised,
     Trailer,
@@ -39,14 +40,14 @@ pub enum Verdict {
     NoLine,
 }
 
-// Reads a message from `fd` and prints its reading; where it has more than 32,768 bytes, only `too long`.
-pub fn explain(fd: i32) {
-    let mut space = io::large_buffer();
-    let len = io::read_full(fd, &mut space);
+// Reads a message from `from` and prints its reading; where it has more than 32,768 bytes, only `too long`.
+pub fn explain<R: Read, W: Write>(from: &mut R, out: &mut W) {
+    let mut space = large_buffer();
+    let len = read_full(from, &mut space);
     if len > 32_768 {
-        print(b"too long\n");
+        print(out, b"too long\n");
     } else {
-        print_reading(&space[..len]);
+        print_reading(out, &space[..len]);
     }
 }
 
@@ -94,46 +95,47 @@ fn is_forgiving(kind: LineKind) -> bool
 }
 
 // Prints the reading of a message.
-fn print_reading(message: &[u8])
+fn print_reading<W: Write>(out: &mut W, message: &[u8])
     requires { length message.now ≤ 32768 }
 {
-    print_divider(message);
+    print_divider(out, message);
     let places = title_and_body(message);
     let body_start = places.body_start;
-    print_title_and_body(places.title_end, body_start, message.len());
-    print_body(&message[body_start..]);
-    print_trailers(message);
+    print_title_and_body(out, places.title_end, body_start, message.len());
+    print_body(out, &message[body_start..]);
+    print_trailers(out, message);
 }
 
 // Prints where the title and the body of a message stand that has `len` bytes.
-fn print_title_and_body(title_end: usize, body_start: usize, len: usize) {
-    print_number(b"title: bytes 0 to ", title_end, b"\n");
-    print_number(b"body: bytes ", body_start, b" to ");
-    print_number(b"", len, b", counted anew from here\n");
+fn print_title_and_body<W: Write>(out: &mut W, title_end: usize, body_start: usize, len: usize) {
+    print_number(out, b"title: bytes 0 to ", title_end, b"\n");
+    print_number(out, b"body: bytes ", body_start, b" to ");
+    print_number(out, b"", len, b", counted anew from here\n");
 }
 
 // Prints the reading of a body.
-fn print_body(body: &[u8])
+fn print_body<W: Write>(out: &mut W, body: &[u8])
     requires { length body.now ≤ 32768 }
 {
     let paragraph = last_paragraph(body);
     let scan = paragraph.scan;
-    print_paragraph(body, paragraph.start);
+    print_paragraph(out, body, paragraph.start);
     print_counts(
+        out,
         scan.trailer_lines,
         scan.non_trailer_lines + scan.possible_continuation_lines,
         scan.recognized_prefix,
     );
     let start = trailer_block_start(body);
-    print_start(start);
-    print_blocks(body, start);
+    print_start(out, start);
+    print_blocks(out, body, start);
 }
 
 // Prints the lines of the last paragraph, which starts at `start`, each behind its kind.
-fn print_paragraph(body: &[u8], start: usize)
+fn print_paragraph<W: Write>(out: &mut W, body: &[u8], start: usize)
     requires { start ≤ length body.now }
 {
-    print_number(b"last paragraph: from byte ", start, b" on\n");
+    print_number(out, b"last paragraph: from byte ", start, b" on\n");
     let mut at = start;
     let mut below = false;
     while at < body.len() {
@@ -143,56 +145,56 @@ fn print_paragraph(body: &[u8], start: usize)
             return;
         }
         let kind = kind_of(line, below);
-        print_line(kind, line);
+        print_line(out, kind, line);
         below = is_forgiving(kind);
         at = end;
     }
 }
 
 // Prints a line's text behind its kind, and how it ended where that is not LF.
-fn print_line(kind: LineKind, line: &[u8]) {
-    print_kind(kind);
+fn print_line<W: Write>(out: &mut W, kind: LineKind, line: &[u8]) {
+    print_kind(out, kind);
     let text = trim_line_ending(line);
     let len = text.len;
     let ending = text.ending;
-    print(&line[..len]);
-    print_ending(ending);
+    print(out, &line[..len]);
+    print_ending(out, ending);
 }
 
 // Prints how a line ended, and ends the printed one.
-fn print_ending(ending: Ending) {
+fn print_ending<W: Write>(out: &mut W, ending: Ending) {
     match ending {
-        Ending::Lf => print(b"\n"),
-        Ending::CrLf => print(b"  (CR LF)\n"),
-        Ending::Cr => print(b"  (CR)\n"),
-        Ending::None => print(b"  (no line end)\n"),
+        Ending::Lf => print(out, b"\n"),
+        Ending::CrLf => print(out, b"  (CR LF)\n"),
+        Ending::Cr => print(out, b"  (CR)\n"),
+        Ending::None => print(out, b"  (no line end)\n"),
     }
 }
 
 // Prints the kind of a line.
-fn print_kind(kind: LineKind) {
+fn print_kind<W: Write>(out: &mut W, kind: LineKind) {
     match kind {
-        LineKind::Recognised => print(b"  recognised   |"),
-        LineKind::Trailer => print(b"  trailer line |"),
-        LineKind::Forgiven => print(b"  forgiven     |"),
-        LineKind::NotForgiven => print(b"  not forgiven |"),
-        LineKind::Other => print(b"  other        |"),
+        LineKind::Recognised => print(out, b"  recognised   |"),
+        LineKind::Trailer => print(out, b"  trailer line |"),
+        LineKind::Forgiven => print(out, b"  forgiven     |"),
+        LineKind::NotForgiven => print(out, b"  not forgiven |"),
+        LineKind::Other => print(out, b"  other        |"),
     }
 }
 
 // Prints t, n, whether a line is recognised, and which rule accepts the paragraph as a block, or why none does.
-fn print_counts(t: usize, n: usize, recognised: bool)
+fn print_counts<W: Write>(out: &mut W, t: usize, n: usize, recognised: bool)
     requires { 3 * t < 2 ^ 64 }
 {
-    print_number(b"t = ", t, b"");
-    print_number(b", n = ", n, b"");
+    print_number(out, b"t = ", t, b"");
+    print_number(out, b", n = ", n, b"");
     if recognised {
-        print(b", with a sign-off or cherry-pick line\n");
+        print(out, b", with a sign-off or cherry-pick line\n");
     } else {
-        print(b", no sign-off or cherry-pick line\n");
+        print(out, b", no sign-off or cherry-pick line\n");
     }
     let verdict = verdict_of(t, n, recognised);
-    print_verdict(verdict);
+    print_verdict(out, verdict);
 }
 
 // By which rule a paragraph is a block, or why it is none. Without a recognised line, only the first rule can accept it.
@@ -216,49 +218,49 @@ fn verdict_of(t: usize, n: usize, recognised: bool) -> Verdict
 }
 
 // Prints by which rule the paragraph is accepted or not.
-fn print_verdict(verdict: Verdict) {
+fn print_verdict<W: Write>(out: &mut W, verdict: Verdict) {
     match verdict {
-        Verdict::AllTrailers => print(b"a block: t > 0 and n = 0\n"),
-        Verdict::EnoughTrailers => print(b"a block: one is recognised and 3t >= n\n"),
-        Verdict::TooManyOthers => print(b"no block: one is recognised, but 3t < n\n"),
-        Verdict::NoneRecognised => print(b"no block: n > 0, and none is recognised\n"),
-        Verdict::NoLine => print(b"no block: there is no line\n"),
+        Verdict::AllTrailers => print(out, b"a block: t > 0 and n = 0\n"),
+        Verdict::EnoughTrailers => print(out, b"a block: one is recognised and 3t >= n\n"),
+        Verdict::TooManyOthers => print(out, b"no block: one is recognised, but 3t < n\n"),
+        Verdict::NoneRecognised => print(out, b"no block: n > 0, and none is recognised\n"),
+        Verdict::NoLine => print(out, b"no block: there is no line\n"),
     }
 }
 
 // Prints where the trailer block starts.
-fn print_start(start: usize) {
-    print_number(b"start: ", start, b"\n");
+fn print_start<W: Write>(out: &mut W, start: usize) {
+    print_number(out, b"start: ", start, b"\n");
 }
 
 // Prints the blocks of a body whose trailer block starts at `start`.
-fn print_blocks(body: &[u8], start: usize)
+fn print_blocks<W: Write>(out: &mut W, body: &[u8], start: usize)
     requires { start ≤ length body.now }
 {
     let mut at = 0;
     let mut from = start;
     while let NextBlock::Block { message_end, end } = next_block_from(body, at, from) {
-        print_block(at, message_end, end);
+        print_block(out, at, message_end, end);
         at = end;
         from = end;
     }
 }
 
 // Prints where a block starts, where its message ends and where its trailers do.
-fn print_block(start: usize, message_end: usize, end: usize) {
-    print_number(b"block: message ", start, b" to ");
-    print_number(b"", message_end, b", trailers to ");
-    print_number(b"", end, b"\n");
+fn print_block<W: Write>(out: &mut W, start: usize, message_end: usize, end: usize) {
+    print_number(out, b"block: message ", start, b" to ");
+    print_number(out, b"", message_end, b", trailers to ");
+    print_number(out, b"", end, b"\n");
 }
 
 // Prints a number between two texts.
-fn print_number(before: &[u8], n: usize, after: &[u8]) {
-    print(before);
-    io::print_decimal(STDOUT_FILENO, n as u64);
-    print(after);
+fn print_number<W: Write>(out: &mut W, before: &[u8], n: usize, after: &[u8]) {
+    print(out, before);
+    print_decimal(out, n as u64);
+    print(out, after);
 }
 
 // Prints bytes.
-fn print(bytes: &[u8]) {
-    io::write_all(STDOUT_FILENO, bytes);
+fn print<W: Write>(out: &mut W, bytes: &[u8]) {
+    write_all(out, bytes);
 }

@@ -3,26 +3,29 @@
 ghost use Rattle.std.specs.Prelude.{◌≡◌, length};
 
 use body::next_trailer;
-use libc::STDOUT_FILENO;
+use console::{print_decimal, write_all};
 use message::message_trailers;
 use rules::{Cursor, Part, Refusal, TrailerRef, TrailerStep, Value, WalkFound};
+use std::io::Write;
 use view::value_of;
 
 // Prints the answers about a message. The buffer has room for any of its values.
-pub fn print_calls(message: &[u8], buffer: &mut [u8]) {
+pub fn print_calls<W: Write>(out: &mut W, message: &[u8], buffer: &mut [u8]) {
     let WalkFound::From(start) = message_trailers(message) else {
         return;
     };
-    print_walk(message, start, buffer);
+    print_walk(out, message, start, buffer);
     let past = Part {
         start: 0,
         end: 1_048_577,
     };
     print_view(
+        out,
         b"past the message: ",
         value_of(message, buffer, Value::InInput(past)),
     );
     print_view(
+        out,
         b"past the buffer: ",
         value_of(message, buffer, Value::InBuffer(past)),
     );
@@ -30,18 +33,18 @@ pub fn print_calls(message: &[u8], buffer: &mut [u8]) {
 
 // Prints each value of the walk from a cursor on that has to be written, with the room that it needs, and where the walk ends.
 // No walk has more steps than bytes, and one.
-fn print_walk(message: &[u8], from: Cursor, buffer: &mut [u8]) {
+fn print_walk<W: Write>(out: &mut W, message: &[u8], from: Cursor, buffer: &mut [u8]) {
     let mut cursor = from;
     let mut steps = 0;
     while steps <= message.len() {
         let needed = needed_at(message, cursor, buffer);
         match next_trailer(message, cursor, buffer) {
             TrailerStep::Trailer { found, next } => {
-                print_needed(message, buffer, found, needed);
+                print_needed(out, message, buffer, found, needed);
                 cursor = next;
             }
             TrailerStep::End(next) => {
-                print_end(next.at, message.len());
+                print_end(out, next.at, message.len());
                 return;
             }
             TrailerStep::Refused(_) => return,
@@ -70,27 +73,33 @@ fn needed_of(refusal: Refusal) -> usize {
     }
 }
 
-fn print_needed<'a>(message: &'a [u8], buffer: &'a [u8], found: TrailerRef, needed: usize) {
+fn print_needed<'a, W: Write>(
+    out: &mut W,
+    message: &'a [u8],
+    buffer: &'a [u8],
+    found: TrailerRef,
+    needed: usize,
+) {
     if needed == 0 {
         return;
     }
     let value = found.value;
-    io::print_decimal(STDOUT_FILENO, needed as u64);
-    io::write_all(STDOUT_FILENO, b" bytes for |");
-    io::write_all(STDOUT_FILENO, value_of(message, buffer, value));
-    io::write_all(STDOUT_FILENO, b"|\n");
+    print_decimal(out, needed as u64);
+    write_all(out, b" bytes for |");
+    write_all(out, value_of(message, buffer, value));
+    write_all(out, b"|\n");
 }
 
-fn print_end(at: usize, len: usize) {
-    io::write_all(STDOUT_FILENO, b"the walk ends at ");
-    io::print_decimal(STDOUT_FILENO, at as u64);
-    io::write_all(STDOUT_FILENO, b" of ");
-    io::print_decimal(STDOUT_FILENO, len as u64);
-    io::write_all(STDOUT_FILENO, b"\n");
+fn print_end<W: Write>(out: &mut W, at: usize, len: usize) {
+    write_all(out, b"the walk ends at ");
+    print_decimal(out, at as u64);
+    write_all(out, b" of ");
+    print_decimal(out, len as u64);
+    write_all(out, b"\n");
 }
 
-fn print_view(place: &[u8], shown: &[u8]) {
-    io::write_all(STDOUT_FILENO, place);
-    io::print_decimal(STDOUT_FILENO, shown.len() as u64);
-    io::write_all(STDOUT_FILENO, b" bytes shown\n");
+fn print_view<W: Write>(out: &mut W, place: &[u8], shown: &[u8]) {
+    write_all(out, place);
+    print_decimal(out, shown.len() as u64);
+    write_all(out, b" bytes shown\n");
 }

@@ -5,45 +5,57 @@
 mod calls;
 
 use calls::print_calls;
-use libc::STDOUT_FILENO;
+use console::{arg, arg_count, buffer, fail, large_buffer, open_read, read_full, write_all};
+use std::io;
+use std::io::Write;
+use std::rt::{Env, Files};
 
-fn main() {
-    let count = os::arg_count();
+fn main(rt: HostRuntime) {
+    let count = arg_count(&rt);
     for i in 1..count {
-        list_entry(i);
+        list_entry(&rt, &mut rt.stdout(), &mut rt.stderr(), i);
     }
 }
 
 // Lists and explains the entry in the file that argument `i` names, or says why it cannot be opened.
-fn list_entry(i: usize) {
-    let mut name = io::buffer();
-    let len = os::arg(i, &mut name);
-    let fd = os::open_read(&name[..len]);
-    if fd < 0 {
-        os::fail(&name[..len]);
-        return;
+fn list_entry<R: Env + Files, W: Write, E: Write>(rt: &R, out: &mut W, errors: &mut E, i: usize) {
+    let mut name = buffer();
+    let len = arg(rt, i, &mut name);
+    match open_read(rt, &name[..len]) {
+        Ok(mut file) => {
+            write_all(out, b"== ");
+            write_all(out, &name[..len]);
+            write_all(out, b"\n");
+            printing::list(&mut file, out);
+        }
+        Err(error) => {
+            fail(errors, &name[..len], error);
+            return;
+        }
     }
-    io::write_all(STDOUT_FILENO, b"== ");
-    io::write_all(STDOUT_FILENO, &name[..len]);
-    io::write_all(STDOUT_FILENO, b"\n");
-    printing::list(fd);
-    libc::close(fd);
-    io::write_all(STDOUT_FILENO, b"= reading\n");
-    let again = os::open_read(&name[..len]);
-    explaining::explain(again);
-    libc::close(again);
-    io::write_all(STDOUT_FILENO, b"= calls\n");
-    ask_entry(&name[..len]);
+    write_all(out, b"= reading\n");
+    explain_entry(rt, out, &name[..len]);
+    write_all(out, b"= calls\n");
+    ask_entry(rt, out, &name[..len]);
 }
 
-// Puts the entry in a file to the calls.
-fn ask_entry(name: &[u8]) {
-    let fd = os::open_read(name);
-    let mut space = io::large_buffer();
-    let len = io::read_full(fd, &mut space);
-    libc::close(fd);
-    let mut buffer = io::large_buffer();
-    print_calls(&space[..len], &mut buffer);
-    io::write_all(STDOUT_FILENO, b"= closing\n");
-    noting::print_closing(&space[..len], 207);
+// Explains the entry in a file; one that can no longer be opened reads as an empty one.
+fn explain_entry<R: Files, W: Write>(rt: &R, out: &mut W, name: &[u8]) {
+    match open_read(rt, name) {
+        Ok(mut file) => explaining::explain(&mut file, out),
+        Err(_) => explaining::explain(&mut io::empty(), out),
+    }
+}
+
+// Puts the entry in a file to the calls; one that can no longer be opened as an empty one.
+fn ask_entry<R: Files, W: Write>(rt: &R, out: &mut W, name: &[u8]) {
+    let mut space = large_buffer();
+    let len = match open_read(rt, name) {
+        Ok(mut file) => read_full(&mut file, &mut space),
+        Err(_) => 0,
+    };
+    let mut buffer = large_buffer();
+    print_calls(out, &space[..len], &mut buffer);
+    write_all(out, b"= closing\n");
+    noting::print_closing(out, &space[..len], 207);
 }

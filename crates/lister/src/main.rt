@@ -1,6 +1,6 @@
 // Lists the trailers of the message on standard input.
 #![tactic(auto)]
 
-fn main() {
-    printing::list(libc::STDIN_FILENO);
+fn main(rt: HostRuntime) {
+    printing::list(&mut rt.stdin(), &mut rt.stdout());
 }

@@ -1,27 +1,28 @@
 // Reports the bundles of some nights: for each file that an argument names, its name and its report.
 #![tactic(auto)]
 
-use libc::STDOUT_FILENO;
+use console::{arg, arg_count, buffer, fail, open_read, write_all};
+use std::io::Write;
+use std::rt::{Env, Files};
 
-fn main() {
-    let count = os::arg_count();
+fn main(rt: HostRuntime) {
+    let count = arg_count(&rt);
     for i in 1..count {
-        report_night(i);
+        report_night(&rt, &mut rt.stdout(), &mut rt.stderr(), i);
     }
 }
 
 // Reports the bundle in the file that argument `i` names, or says why it cannot be opened.
-fn report_night(i: usize) {
-    let mut name = io::buffer();
-    let len = os::arg(i, &mut name);
-    let fd = os::open_read(&name[..len]);
-    if fd < 0 {
-        os::fail(&name[..len]);
-        return;
+fn report_night<R: Env + Files, W: Write, E: Write>(rt: &R, out: &mut W, errors: &mut E, i: usize) {
+    let mut name = buffer();
+    let len = arg(rt, i, &mut name);
+    match open_read(rt, &name[..len]) {
+        Ok(mut file) => {
+            write_all(out, b"== ");
+            write_all(out, &name[..len]);
+            write_all(out, b"\n");
+            reporting::report(&mut file, out);
+        }
+        Err(error) => fail(errors, &name[..len], error),
     }
-    io::write_all(STDOUT_FILENO, b"== ");
-    io::write_all(STDOUT_FILENO, &name[..len]);
-    io::write_all(STDOUT_FILENO, b"\n");
-    reporting::report(fd);
-    libc::close(fd);
 }

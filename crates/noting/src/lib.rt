@@ -2,42 +2,43 @@
 #![tactic(auto)]
 
 use closing::{EraseFound, Fault, Field, NoteFound};
+use console::{print_decimal, write_all};
 use content::{is_good, number_of};
 use divider::Reading;
 use erasing::{closing_note, may_erase};
-use libc::STDOUT_FILENO;
 use rules::{Part, Value};
+use std::io::Write;
 use view::value_of;
 
 // Prints the note of a message and whether the unit may erase where it received as many records as `count` says; where that is no
 // decimal from 0 to 1,000,000, only `no count`.
-pub fn close(message: &[u8], count: &[u8]) {
+pub fn close<W: Write>(out: &mut W, message: &[u8], count: &[u8]) {
     if !is_good(Field::Records, count) {
-        io::write_all(STDOUT_FILENO, b"no count\n");
+        write_all(out, b"no count\n");
         return;
     }
-    print_closing(message, number_of(count));
+    print_closing(out, message, number_of(count));
 }
 
 // Prints the note of a message, and whether the unit may erase where it received so many records; or why it is no closing note.
-pub fn print_closing(message: &[u8], received: usize) {
+pub fn print_closing<W: Write>(out: &mut W, message: &[u8], received: usize) {
     match closing_note(message, Reading::Whole) {
         NoteFound::Note {
             vehicle,
             records,
             complete,
-        } => print_note(message, vehicle, records, complete),
+        } => print_note(out, message, vehicle, records, complete),
         NoteFound::TooLong => {
-            io::write_all(STDOUT_FILENO, b"too long\n");
+            write_all(out, b"too long\n");
         }
-        NoteFound::Refused { fault, field } => print_refused(fault, field),
+        NoteFound::Refused { fault, field } => print_refused(out, fault, field),
     }
     match may_erase(message, Reading::Whole, received) {
         EraseFound::Yes => {
-            io::write_all(STDOUT_FILENO, b"may erase: yes\n");
+            write_all(out, b"may erase: yes\n");
         }
         EraseFound::No => {
-            io::write_all(STDOUT_FILENO, b"may erase: no\n");
+            write_all(out, b"may erase: no\n");
         }
         EraseFound::TooLong => {}
         EraseFound::Refused { fault: _, field: _ } => {}
@@ -45,51 +46,54 @@ pub fn print_closing(message: &[u8], received: usize) {
 }
 
 // Prints the three fields of a note.
-fn print_note(message: &[u8], vehicle: Part, records: usize, complete: bool) {
-    io::write_all(STDOUT_FILENO, b"vehicle ");
-    io::write_all(
-        STDOUT_FILENO,
-        value_of(message, message, Value::InInput(vehicle)),
-    );
-    io::write_all(STDOUT_FILENO, b"\nrecords ");
-    io::print_decimal(STDOUT_FILENO, records as u64);
+fn print_note<W: Write>(
+    out: &mut W,
+    message: &[u8],
+    vehicle: Part,
+    records: usize,
+    complete: bool,
+) {
+    write_all(out, b"vehicle ");
+    write_all(out, value_of(message, message, Value::InInput(vehicle)));
+    write_all(out, b"\nrecords ");
+    print_decimal(out, records as u64);
     if complete {
-        io::write_all(STDOUT_FILENO, b"\nstate complete\n");
+        write_all(out, b"\nstate complete\n");
         return;
     }
-    io::write_all(STDOUT_FILENO, b"\nstate partial\n");
+    write_all(out, b"\nstate partial\n");
 }
 
 // Prints a refusal: what is wrong, and with which field.
-fn print_refused(fault: Fault, field: Field) {
-    print_fault(fault);
-    print_field(field);
+fn print_refused<W: Write>(out: &mut W, fault: Fault, field: Field) {
+    print_fault(out, fault);
+    print_field(out, field);
 }
 
-fn print_fault(fault: Fault) {
+fn print_fault<W: Write>(out: &mut W, fault: Fault) {
     match fault {
         Fault::Missing => {
-            io::write_all(STDOUT_FILENO, b"no closing note: missing: ");
+            write_all(out, b"no closing note: missing: ");
         }
         Fault::Repeated => {
-            io::write_all(STDOUT_FILENO, b"no closing note: repeated: ");
+            write_all(out, b"no closing note: repeated: ");
         }
         Fault::BadContent => {
-            io::write_all(STDOUT_FILENO, b"no closing note: bad content: ");
+            write_all(out, b"no closing note: bad content: ");
         }
     }
 }
 
-fn print_field(field: Field) {
+fn print_field<W: Write>(out: &mut W, field: Field) {
     match field {
         Field::Vehicle => {
-            io::write_all(STDOUT_FILENO, b"Vehicle\n");
+            write_all(out, b"Vehicle\n");
         }
         Field::Records => {
-            io::write_all(STDOUT_FILENO, b"Records\n");
+            write_all(out, b"Records\n");
         }
         Field::OffloadState => {
-            io::write_all(STDOUT_FILENO, b"Offload-state\n");
+            write_all(out, b"Offload-state\n");
         }
     }
 }

@@ -7,7 +7,7 @@ use body::{
     is_reviewed_by, is_signed_off_by, is_tested_by, next_block, next_trailer_of,
     trailer_block_start,
 };
-use libc::STDOUT_FILENO;
+use console::write_all;
 use message::decode::message_title_and_body;
 use message::{message_summary, message_trailers, summary};
 use recorded::{Place, bytes_at, expect_bytes, expect_number, expect_two, number_at};
@@ -15,6 +15,7 @@ use rules::{
     BlockCursor, BlockStep, Cursor, Kind, Part, StartFound, TitleAndBody, TrailerFound, TrailerRef,
     TrailerStep, Value, ValueFound, WalkFound, YesNo,
 };
+use std::io::Write;
 use view::value_of;
 
 // How many answers the list has about an input. They are numbered from 0.
@@ -51,18 +52,18 @@ pub fn answer_agrees(
 }
 
 // Prints what the answer with a number is about.
-pub fn print_answer(answer: usize) -> bool {
+pub fn print_answer<W: Write>(out: &mut W, answer: usize) -> bool {
     match answer {
-        0 => io::write_all(STDOUT_FILENO, b"title and body"),
-        1 => io::write_all(STDOUT_FILENO, b"title summary"),
-        2 => io::write_all(STDOUT_FILENO, b"message summary"),
-        3 => io::write_all(STDOUT_FILENO, b"message trailers"),
-        4 => io::write_all(STDOUT_FILENO, b"block start"),
-        5 => io::write_all(STDOUT_FILENO, b"trailers"),
-        6 => io::write_all(STDOUT_FILENO, b"filtered trailers"),
-        7 => io::write_all(STDOUT_FILENO, b"blocks"),
-        8 => io::write_all(STDOUT_FILENO, b"lookup"),
-        _ => io::write_all(STDOUT_FILENO, b"token questions"),
+        0 => write_all(out, b"title and body"),
+        1 => write_all(out, b"title summary"),
+        2 => write_all(out, b"message summary"),
+        3 => write_all(out, b"message trailers"),
+        4 => write_all(out, b"block start"),
+        5 => write_all(out, b"trailers"),
+        6 => write_all(out, b"filtered trailers"),
+        7 => write_all(out, b"blocks"),
+        8 => write_all(out, b"lookup"),
+        _ => write_all(out, b"token questions"),
     }
 }
 

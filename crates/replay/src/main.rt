@@ -7,12 +7,13 @@
 
 mod answers;
 
-ghost use Rattle.std.specs.Prelude.{length, ◌≡◌};
-ghost use Rattle.io.specs.Counts.{IsPrefixLen};
+ghost use Rattle.std.specs.Prelude.{length, ◌≡◌, ◌≤◌, take};
 
 use answers::{ANSWERS, answer_agrees, print_answer};
-use libc::STDOUT_FILENO;
+use console::{buffer, fail, open_read, print_decimal, read_full, write_all};
 use recorded::{Place, bytes_at, two_bytes_at};
+use std::io::Write;
+use std::rt::Files;
 
 // Whether the answers about a message agree: the place behind them, or the number of the first that does not.
 #[derive(Drop)]
@@ -40,25 +41,25 @@ fn replay(list: &[u8], place: Place, out: &mut [u8]) -> Outcome {
 }
 
 // Replays all messages, and prints how it went.
-fn replay_all(list: &[u8], out: &mut [u8]) {
+fn replay_all<W: Write>(out: &mut W, list: &[u8], space: &mut [u8]) {
     let messages = two_bytes_at(list, Place::At(0));
     let mut place = messages.next;
     let mut number = 0;
     while number < messages.value {
-        match replay(list, place, out) {
+        match replay(list, place, space) {
             Outcome::Agree(next) => place = next,
             Outcome::Differs(answer) => {
-                print_difference(number, answer);
+                print_difference(out, number, answer);
                 return;
             }
         }
         number += 1;
     }
-    print_agreement(number, is_end(list, place));
+    print_agreement(out, number, is_end(list, place));
 }
 
 // Replays each of the small lists, behind its name.
-fn replay_each(lists: &[u8], out: &mut [u8]) {
+fn replay_each<W: Write>(out: &mut W, lists: &[u8], space: &mut [u8]) {
     let count = two_bytes_at(lists, Place::At(0));
     let mut place = count.next;
     let mut number = 0;
@@ -70,9 +71,9 @@ fn replay_each(lists: &[u8], out: &mut [u8]) {
         let list = bytes_at(lists, behind);
         let start = list.start;
         let end = list.end;
-        io::write_all(STDOUT_FILENO, &lists[name_start..name_end]);
-        io::write_all(STDOUT_FILENO, b": ");
-        replay_all(&lists[start..end], out);
+        write_all(out, &lists[name_start..name_end]);
+        write_all(out, b": ");
+        replay_all(out, &lists[start..end], space);
         place = list.next;
         number += 1;
     }
@@ -86,38 +87,34 @@ fn is_end(list: &[u8], place: Place) -> bool {
     }
 }
 
-fn print_difference(number: usize, answer: usize) {
-    io::write_all(STDOUT_FILENO, b"message ");
-    io::print_decimal(STDOUT_FILENO, number as u64);
-    io::write_all(STDOUT_FILENO, b" differs: ");
-    print_answer(answer);
-    io::write_all(STDOUT_FILENO, b"\n");
+fn print_difference<W: Write>(out: &mut W, number: usize, answer: usize) {
+    write_all(out, b"message ");
+    print_decimal(out, number as u64);
+    write_all(out, b" differs: ");
+    print_answer(out, answer);
+    write_all(out, b"\n");
 }
 
-fn print_agreement(messages: usize, is_end: bool) {
+fn print_agreement<W: Write>(out: &mut W, messages: usize, is_end: bool) {
     if !is_end {
-        io::write_all(
-            STDOUT_FILENO,
-            b"the list does not end behind its last message\n",
-        );
+        write_all(out, b"the list does not end behind its last message\n");
         return;
     }
-    io::print_decimal(STDOUT_FILENO, messages as u64);
-    io::write_all(STDOUT_FILENO, b" messages agree\n");
+    print_decimal(out, messages as u64);
+    write_all(out, b" messages agree\n");
 }
 
-// Reads a file into `list`: how many bytes it has.
-fn read_file(name: &[u8], list: &mut [u8]) -> usize
-    ensures { IsPrefixLen result list.new }
+// Reads a file into `list`: how many bytes it has; 0 where it cannot be opened, and then says why.
+fn read_file<R: Files, E: Write>(rt: &R, errors: &mut E, name: &[u8], list: &mut [u8]) -> usize
+    ensures { (result ≤ length list.new) × (result ≡ length (take result list.new)) }
 {
-    let fd = os::open_read(name);
-    if fd < 0 {
-        os::fail(name);
-        return 0;
+    match open_read(rt, name) {
+        Ok(mut file) => read_full(&mut file, list),
+        Err(error) => {
+            fail(errors, name, error);
+            0
+        }
     }
-    let n = io::read_full(fd, list);
-    libc::close(fd);
-    n
 }
 
 // Room for the list.
@@ -127,11 +124,13 @@ fn list_buffer() -> [u8; 393216]
     [0; 393216]
 }
 
-fn main() {
+fn main(rt: HostRuntime) {
     let mut list = list_buffer();
-    let mut out = io::buffer();
-    let n = read_file(b"list", &mut list);
-    replay_all(&list[..n], &mut out);
-    let n = read_file(b"changed", &mut list);
-    replay_each(&list[..n], &mut out);
+    let mut space = buffer();
+    let mut out = rt.stdout();
+    let mut errors = rt.stderr();
+    let n = read_file(&rt, &mut errors, b"list", &mut list);
+    replay_all(&mut out, &list[..n], &mut space);
+    let n = read_file(&rt, &mut errors, b"changed", &mut list);
+    replay_each(&mut out, &list[..n], &mut space);
 }

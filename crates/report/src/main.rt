@@ -1,6 +1,6 @@
 // Reports the bundle on standard input.
 #![tactic(auto)]
 
-fn main() {
-    reporting::report(libc::STDIN_FILENO);
+fn main(rt: HostRuntime) {
+    reporting::report(&mut rt.stdin(), &mut rt.stdout());
 }

@@ -4,58 +4,69 @@
 ghost use Rattle.std.specs.Prelude.{◌≤◌, length};
 
 use body::{is_of_kind, next_trailer};
-use libc::STDOUT_FILENO;
+use console::{large_buffer, print_decimal, write_all};
 use mailbox::MailboxFound;
 use message::message_trailers;
 use rules::{Kind, TrailerRef, TrailerStep, Value, WalkFound, YesNo};
 use signer::mailbox;
+use std::io::Write;
 use view::value_of;
 
 // Prints the trailers of a message. The buffer has room for any value of it, so no step is refused.
-pub fn print_trailers(message: &[u8])
+pub fn print_trailers<W: Write>(out: &mut W, message: &[u8])
     requires { length message.now ≤ 32768 }
 {
     let WalkFound::From(start) = message_trailers(message) else {
         return;
     };
-    let mut buffer = io::large_buffer();
+    let mut buffer = large_buffer();
     let mut cursor = start;
     while let TrailerStep::Trailer { found, next } = next_trailer(message, cursor, &mut buffer) {
-        print_trailer(message, &buffer, found);
+        print_trailer(out, message, &buffer, found);
         cursor = next;
     }
 }
 
 // Prints the number of a trailer's line and its token; and, if it is an attribution and its value is a mailbox, the name and the
 // address under it.
-fn print_trailer<'a>(message: &'a [u8], buffer: &'a [u8], trailer: TrailerRef) {
+fn print_trailer<'a, W: Write>(
+    out: &mut W,
+    message: &'a [u8],
+    buffer: &'a [u8],
+    trailer: TrailerRef,
+) {
     let token = trailer.token;
     let value = trailer.value;
-    io::write_all(STDOUT_FILENO, b"line ");
-    io::print_decimal(STDOUT_FILENO, trailer.line as u64);
-    print_part(b": ", value_of(message, buffer, Value::InInput(token)));
-    io::write_all(STDOUT_FILENO, b"\n");
+    write_all(out, b"line ");
+    print_decimal(out, trailer.line as u64);
+    print_part(out, b": ", value_of(message, buffer, Value::InInput(token)));
+    write_all(out, b"\n");
     let YesNo::Yes = is_of_kind(message, token, Kind::Attribution) else {
         return;
     };
-    print_signer(value_of(message, buffer, value));
+    print_signer(out, value_of(message, buffer, value));
 }
 
 // Prints the name and the address of a value that is a mailbox.
-fn print_signer(text: &[u8]) {
+fn print_signer<W: Write>(out: &mut W, text: &[u8]) {
     let MailboxFound::Mailbox { name, address } = mailbox(text) else {
         return;
     };
-    print_part(b"  name    |", value_of(text, text, Value::InInput(name)));
     print_part(
+        out,
+        b"  name    |",
+        value_of(text, text, Value::InInput(name)),
+    );
+    print_part(
+        out,
         b"\n  address |",
         value_of(text, text, Value::InInput(address)),
     );
-    io::write_all(STDOUT_FILENO, b"\n");
+    write_all(out, b"\n");
 }
 
 // Prints bytes behind what stands before them.
-fn print_part(before: &[u8], part: &[u8]) {
-    io::write_all(STDOUT_FILENO, before);
-    io::write_all(STDOUT_FILENO, part);
+fn print_part<W: Write>(out: &mut W, before: &[u8], part: &[u8]) {
+    write_all(out, before);
+    write_all(out, part);
 }
