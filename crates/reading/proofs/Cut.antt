@@ -1,7 +1,7 @@
 -- The calls on a whole message in either reading, from what is shown once for every call (divider/proofs/Readings): the first is
 -- untouched, and "demands 2 and 3 speak of the cut message in the second". Assumes nothing.
-use mathlib.Core.Bool.{true, false}
-use mathlib.Core.List.{List, [], ◌∷◌, map}
+use mathlib.Core.Bool.{false}
+use mathlib.Core.List.{List, [], map}
 use mathlib.Core.Logic.{◌↔◌}
 use mathlib.Core.Path.{◌≡◌}
 use Prim.Native.Nat.{ℕ}

@@ -6,3 +6,4 @@ pub mod Plain
 pub mod Put
 pub mod InOne
 pub mod Stop
+pub mod Folding

@@ -143,3 +143,8 @@ module _ (m : List ℕ) (kept first : ℕ) (fits : kept ≤ length m) (e : first
       let until : blank ≡ until_followed 0 32 m = b ∙ sym (run_front 0 32 first m (omega arith) front) in
       let whole : suc (kept - 1) ≡ kept = omega arith in
       rw until (among 0 32 (kept - 1) m (omega arith) ∙ rw whole)
+
+-- a byte up to the space right before the first LF is such a byte
+pub blank_first : (m : List ℕ) (kept : ℕ) → kept ≤ length m → until_lf m < kept → 0 < until_lf m → get_or m (until_lf m - 1) 0 ≤ 32
+    → any_followed 0 32 (take kept m) ≡ true
+blank_first m kept fits behind some h = blank_before m kept (until_lf m) fits refl behind (until_lf m - 1) (omega arith) h

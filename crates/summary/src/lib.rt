@@ -102,6 +102,7 @@ fn find_followed(s: &[u8], at: usize, low: u8, high: u8) -> usize
 
 // Whether no blank stands directly before an LF among the first `kept` bytes of a message: no byte up to the space does. The first LF is at `first`,
 // or there is none, and from there on the first such byte is at `blank`.
+#[tactic(auto, using(crate::proofs::Plain::blank_first))]
 fn is_plain(message: &[u8], kept: usize, first: usize, blank: usize) -> bool
     requires kept_in_bounds { kept ≤ length message.now }
     requires first_value { (first ≡ until_lf message.now) × (blank ≡ first + until_followed 0 32 (drop first message.now)) }

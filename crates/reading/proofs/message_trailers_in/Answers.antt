@@ -1,0 +1,17 @@
+-- `reading::message_trailers_in` meets its contract: the message up to its end is handed on. Assumes nothing.
+use mathlib.Core.List.{[]}
+use mathlib.Core.Path.{◌∙◌}
+use Rattle.rules.specs.Answers.{says}
+use Rattle.divider.proofs.Readings.{answered_in, handed_on}
+use Rattle.message.specs.Message.{walk_answer}
+use Rattle.reading.proofs.message_trailers_in.Goals as goal
+
+pub slice_bounds-message_trailers-end : goal.slice_bounds-message_trailers-end
+slice_bounds-message_trailers-end c =
+    let a = c.args in
+    (handed_on a.reading a.message.now c.end_in-end.ensures).1
+
+pub returns : goal.returns
+returns c =
+    let a = c.args in
+    c.message_trailers.ensures ∙ answered_in (says 1 []) walk_answer a.reading a.message.now c.end_in-end.ensures c.if-message-gt-LIMIT.false

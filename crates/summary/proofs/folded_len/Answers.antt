@@ -1,0 +1,57 @@
+-- `summary::folded_len` meets its contract. The invariant: with what the pieces from `at` on add up to, the length is that of them all.
+-- Assumes nothing.
+use mathlib.Core.List.{List, [], ◌∷◌}
+use mathlib.Core.Path.{◌≡◌, ap}
+use Prim.Native.Nat.{ℕ, ◌+◌, ◌-◌, ◌≤◌, ◌<◌}
+use native.Mathlib.Omega.{arith}
+use lib.ListN.{length, drop, length-append, length-drop}
+use Rattle.rules.specs.Bytes.{space}
+use Rattle.rules.specs.Lines.{inner}
+use Rattle.rules.specs.Lists.{run}
+use Rattle.rules.specs.Summary.{added, drop_blanks, folded, pieces}
+use Rattle.rules.proofs.Summary.{length-drop_blanks}
+use Rattle.summary.proofs.Pieces.{piece, piece-length, found_within, added_at, added_last}
+use Rattle.summary.proofs.folded_len.Goals as goal
+use Rattle.summary.proofs.folded_len.Goals.{After-trim_blanks}
+
+-- the piece from `at` to an LF at `pos`, of which `n` bytes stay
+module _ (s : List ℕ) (at pos n : ℕ) (e : pos ≡ at + length (run inner (drop at s))) (h : pos < length s)
+    (b : n ≡ length (drop_blanks (piece s at pos))) where
+  within : n ≤ pos - at
+  within = omega (arith, length-drop_blanks (piece s at pos), piece-length s at pos (omega arith) (omega arith))
+
+  turn : (n + 1) + length (added (pieces (drop (pos + 1) s))) ≡ length (added (pieces (drop at s)))
+  turn =
+      omega (
+        arith,
+        ap length (added_at s at pos e h),
+        length-append (folded (piece s at pos)) (added (pieces (drop (pos + 1) s))),
+        length-append (drop_blanks (piece s at pos)) (space ∷ []),
+      )
+
+-- how much of the piece ahead stays
+stays : (c : After-trim_blanks) → c.trim_blanks.result ≤ c.loop-pos.pos - c.loop-pos.at
+stays c = within c.args.text.now c.loop-pos.at c.loop-pos.pos c.trim_blanks.result c.loop-pos.invariant.0 (omega arith) c.trim_blanks.ensures
+
+pub overflow_add-len : goal.overflow_add-len
+overflow_add-len c = omega (arith, stays c)
+
+pub overflow_add-len-in-loop-pos : goal.overflow_add-len-in-loop-pos
+overflow_add-len-in-loop-pos c = omega (arith, stays c)
+
+pub loop-pos-preserved : goal.loop-pos-preserved
+loop-pos-preserved c =
+    let s = c.args.text.now in
+    let passed = turn s c.loop-pos.at c.loop-pos.pos c.trim_blanks.result c.loop-pos.invariant.0 (omega arith) c.trim_blanks.ensures in
+    (c.find_lf-pos-in-loop-pos.ensures, omega arith, omega (arith, stays (goal.at.loop-pos-preserved c).After-trim_blanks), omega (arith, passed))
+
+pub returns : goal.returns
+returns c =
+    let s = c.args.text.now in
+    let found = c.loop-pos.invariant.0 in
+    omega (
+      arith,
+      ap length (added_last s c.loop-pos.at c.loop-pos.pos found (omega arith)),
+      length-drop c.loop-pos.at s,
+      found_within s c.loop-pos.at c.loop-pos.pos found (omega arith),
+    )
