@@ -7,28 +7,28 @@ use denote.Enum.Declared.{tag_of}
 use lib.ListN.{length, take, drop, length-append}
 use lib.Seq.{take_at}
 use types.Run.{OneOf, miss}
-use Rattle.screen.proofs.Answers.{is-written, written-front}
-use Rattle.screen.proofs.Lines.{listing-short}
+use Rattle.screen.proofs.Answers.{is_written, written_front}
+use Rattle.screen.proofs.Lines.{listing_short}
 use Rattle.screen.specs.contracts.ListingWritten.{the_type}
-use Rattle.screen.specs.Answers.{listingAnswer, listingBuffer, writtenSays}
+use Rattle.screen.specs.Answers.{listing_answer, listing_buffer, written_says}
 use Rattle.screen.specs.Listing.{listing}
 use Rattle.screen.specs.declared.ListingWritten.{ListingWritten}
 
-module _ (m d : List ℕ) (h : length m ≤ 32_768) (k : 98_319 ≤ length d) (r : ListingWritten) (e : writtenSays r ≡ listingAnswer m (length d)) where
+module _ (m d : List ℕ) (h : length m ≤ 32_768) (k : 98_319 ≤ length d) (r : ListingWritten) (e : written_says r ≡ listing_answer m (length d)) where
   fits : length (listing m) ≤ length d
-  fits = omega (arith, listing-short m h)
+  fits = omega (arith, listing_short m h)
 
-  length-said : r ≡ ListingWritten.Length (length (listing m))
-  length-said = is-written m d (omega arith) fits r e
+  length_said : r ≡ ListingWritten.Length (length (listing m))
+  length_said = is_written m d (omega arith) fits r e
 
-  pub not-refused : OneOf (1 ∷ 2 ∷ []) (tag_of the_type r) → ⊥
-  not-refused o = miss (1 ∷ 2 ∷ []) 0 tt (rw length-said at o)
+  pub not_refused : OneOf (1 ∷ 2 ∷ []) (tag_of the_type r) → ⊥
+  not_refused o = miss (1 ∷ 2 ∷ []) 0 tt (rw length_said at o)
 
-  pub in-front : (n : ℕ) (o : List ℕ) → r ≡ ListingWritten.Length n → o ≡ listingBuffer m d
+  pub in_front : (n : ℕ) (o : List ℕ) → r ≡ ListingWritten.Length n → o ≡ listing_buffer m d
       → ((n ≤ length o) × (n ≡ length (take n o))) × (take n o ≡ listing m)
-  in-front n o q f =
-      let size : n ≡ length (listing m) = lengths (sym q ∙ length-said) in
-      let whole : o ≡ listing m ++ drop (length (listing m)) d = written-front m d (omega arith) fits o f in
+  in_front n o q f =
+      let size : n ≡ length (listing m) = lengths (sym q ∙ length_said) in
+      let whole : o ≡ listing m ++ drop (length (listing m)) d = written_front m d (omega arith) fits o f in
       let front : take n o ≡ listing m = rw whole (take_at (listing m) (drop (length (listing m)) d) n (sym size)) in
       ((omega (arith, ap length whole, length-append (listing m) (drop (length (listing m)) d)), size ∙ sym (ap length front)), front)
     where
