@@ -1,18 +1,18 @@
 -- The contracts decide: two ends of which one of them holds are the same. Each is told by a reading that is stopped behind the piece.
 -- Assumes nothing.
 use Rattle.std.specs.Prelude.{if◌then◌else◌}
-use mathlib.Core.Bool.{Bool, true, false, not, ◌||◌}
+use mathlib.Core.Bool.{Bool, true, false, not}
 use mathlib.Core.List.{List, [], ◌∷◌}
 use mathlib.Core.Path.{◌≡◌, refl, sym, ap, ◌∙◌}
 use Prim.Native.Nat.{ℕ, suc}
 use native.Mathlib.Omega.{arith}
 use lib.Dec.{T, eqb, eqb→eq}
-use lib.ListN.{length, drop, get_or}
+use lib.ListN.{drop, get_or}
 use Rattle.rules.specs.Lists.{Stops, first}
-use Rattle.rules.proofs.Lists.{is_true, is_false}
+use Rattle.rules.proofs.Lists.{is_true}
 use Rattle.mailbox.specs.Grammar.{white_byte, refused}
-use Rattle.mailbox.specs.Reader.{Home, State, home, names, none as none_named, atom, quote, quote_taken, text, dotted, inside, inside_taken, dead}
-use Rattle.comment.specs.Ends.{Watch, Stopped, stopped, answered, until, onward, end, text_byte, Text, TextEnd, CommentEnd, in_comment, gap_byte, Passes, GapStep, GapEnd}
+use Rattle.mailbox.specs.Reader.{State, home, names, none as none_named, atom, quote, quote_taken, text, dotted, inside, inside_taken, dead}
+use Rattle.comment.specs.Ends.{Watch, stopped, answered, until, onward, end, text_byte, Text, TextEnd, CommentEnd, in_comment, gap_byte, Passes, GapStep, GapEnd}
 use Rattle.comment.specs.declared.End.{End}
 
 -- ---- a reading that is stopped

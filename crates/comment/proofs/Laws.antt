@@ -1,6 +1,6 @@
 -- What the reader does from a place on: laws of a watched reading, and what each function adds to it. Assumes nothing.
 use Rattle.std.specs.Prelude.{if◌then◌else◌}
-use mathlib.Core.Bool.{Bool, true, false, not, ◌||◌}
+use mathlib.Core.Bool.{Bool, true, false, not}
 use mathlib.Core.List.{List, [], ◌∷◌}
 use mathlib.Core.Path.{◌≡◌, refl, sym, ap, ◌∙◌}
 use Prim.Native.Nat.{ℕ, zero, suc, ◌+◌, ◌≤◌, ◌<◌}
@@ -13,7 +13,7 @@ use lib.Seq.{drop-cons, drop-drop}
 use Rattle.rules.specs.Lists.{Stops}
 use Rattle.rules.proofs.Lists.{is_true, is_false, or_left, or_right}
 use Rattle.mailbox.specs.Grammar.{white_byte, comment_text, quote_text, takes, refused, deepest}
-use Rattle.mailbox.specs.Reader.{Home, State, home, quote, quote_taken, dead, inside, inside_taken, opening, closing, step, finish}
+use Rattle.mailbox.specs.Reader.{Home, State, home, dead, inside, inside_taken, opening, closing, step, finish}
 use Rattle.mailbox.proofs.Tests.{neither}
 use Rattle.comment.specs.Ends.{Watch, answered, until, onward, end, text_of, taken, width, text_byte, Text, PassesText, TextEnd, Unseen, CommentEnd, in_comment, gap_byte, Passes, GapStep, GapEnd}
 use Rattle.comment.specs.declared.End.{End}

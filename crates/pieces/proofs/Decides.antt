@@ -1,13 +1,13 @@
 -- The contracts decide: two ends of which one of them holds are the same. Assumes nothing.
 use Rattle.std.specs.Prelude.{if◌then◌else◌}
 use mathlib.Core.Bool.{Bool, true, false, not}
-use mathlib.Core.List.{List, [], ◌∷◌}
+use mathlib.Core.List.{List}
 use mathlib.Core.Path.{◌≡◌, refl, sym, ◌∙◌}
 use Prim.Native.Nat.{ℕ}
 use lib.Dec.{eqb}
 use lib.ListN.{drop, get_or}
 use Rattle.rules.specs.Lists.{first}
-use Rattle.mailbox.specs.Reader.{Half, State, local, home, names, some, atom, quote, quote_taken, text, dotted, inside, inside_taken, dead}
+use Rattle.mailbox.specs.Reader.{State, local, home, names, some, atom, quote, quote_taken, text, dotted, inside, inside_taken, dead}
 use Rattle.comment.specs.Ends.{Watch, end}
 use Rattle.comment.specs.declared.End.{End}
 use Rattle.comment.proofs.Decides.{ends_same, not_first, is_first}

@@ -1,9 +1,9 @@
 -- What the reader does from a place on, over atoms, dot-atoms and quoted strings. Assumes nothing.
 use Rattle.std.specs.Prelude.{if◌then◌else◌}
-use mathlib.Core.Bool.{Bool, true, false, not, ◌||◌}
+use mathlib.Core.Bool.{Bool, true, false, not}
 use mathlib.Core.List.{List, [], ◌∷◌}
 use mathlib.Core.Path.{◌≡◌, refl, sym, ap, ◌∙◌}
-use Prim.Native.Nat.{ℕ, zero, suc, ◌+◌, ◌≤◌, ◌<◌}
+use Prim.Native.Nat.{ℕ, suc, ◌+◌, ◌≤◌, ◌<◌}
 use native.Mathlib.Numerals.{add-one}
 use native.Mathlib.Omega.{arith}
 use borrow.Author.Tests.{ne_eqb}
@@ -17,7 +17,7 @@ use Rattle.mailbox.specs.Reader.{Half, State, home, names, some, quote, quote_ta
 use Rattle.mailbox.specs.Grammar.{deepest, refused}
 use Rattle.mailbox.proofs.Tests.{neither}
 use Rattle.mailbox.proofs.Accepts.{text_stays, dotted_text, is_dot}
-use Rattle.comment.specs.Ends.{Watch, answered, until, onward, end, text_byte, Text, PassesText, TextEnd}
+use Rattle.comment.specs.Ends.{Watch, answered, until, end, text_byte, Text, PassesText, TextEnd}
 use Rattle.comment.specs.declared.End.{End}
 use Rattle.comment.proofs.Laws.{turn, turn_at, dies_at, end_at, refuses_both, goes_on}
 use Rattle.pieces.specs.Ends.{atom_end, dot_byte, PassesDots, DotEnd, QuoteEnd}

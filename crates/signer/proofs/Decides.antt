@@ -1,7 +1,7 @@
 -- The contracts decide: two ends of which one of them holds are the same. Assumes nothing.
 use Rattle.std.specs.Prelude.{if◌then◌else◌}
 use mathlib.Core.Bool.{Bool, true, false}
-use mathlib.Core.List.{List, [], ◌∷◌}
+use mathlib.Core.List.{List}
 use mathlib.Core.Path.{◌≡◌, refl, sym, ap, ◌∙◌}
 use Prim.Native.Nat.{ℕ}
 use native.Mathlib.Omega.{arith}
@@ -9,8 +9,8 @@ use borrow.Author.Tests.{le-ltb}
 use lib.Dec.{T_not, eqb, eqb→eq, ltb}
 use lib.ListN.{drop}
 use Rattle.mailbox.specs.Grammar.{refused}
-use Rattle.mailbox.specs.Reader.{Half, Home, State, local, domain, home, opened, closed, sign_of, next}
-use Rattle.comment.specs.Ends.{Watch, Stopped, stopped, answered, until, end}
+use Rattle.mailbox.specs.Reader.{Half, State, local, domain, home, opened, sign_of, next}
+use Rattle.comment.specs.Ends.{Watch, stopped, answered, until, end}
 use Rattle.comment.specs.declared.End.{End}
 use Rattle.comment.proofs.Decides.{stops_here, same_refusal, no_stop, gap_end_decides}
 use Rattle.pieces.specs.Ends.{DotEnd}

@@ -10,25 +10,23 @@ use native.Mathlib.Numerals.{add-one}
 use native.Mathlib.Omega.{arith}
 use borrow.Author.Tests.{eq-eqb, ne_eqb}
 use lib.Dec.{T, eqb, eqb→eq}
-use lib.ListN.{length, drop, get_or, drop_of_length-le}
+use lib.ListN.{length, drop, get_or}
 use lib.Seq.{drop-cons}
-use Rattle.rules.specs.Answers.{says}
 use Rattle.rules.specs.Lists.{Stops, run}
-use Rattle.rules.proofs.Lists.{is_false, nor}
-use Rattle.mailbox.specs.Answers.{answer_says}
+use Rattle.rules.proofs.Lists.{is_false}
 use Rattle.mailbox.specs.Grammar.{white_byte, atext, Answer, accepted, refused, ranges, deepest}
 use Rattle.mailbox.specs.Place as place
-use Rattle.mailbox.specs.Reader.{Half, Home, State, Named, none as none_named, some, home, names, opened, behind, closed, dead, atom, quote, quote_taken, inside, inside_taken, text as in-text, dotted, from_of, to_of, local, domain}
+use Rattle.mailbox.specs.Reader.{Half, Home, State, Named, none as none_named, some, home, names, opened, behind, closed, dead, atom, quote, quote_taken, inside, inside_taken, text as in-text, dotted, from_of, local, domain}
 use Rattle.mailbox.specs.Reader.{sign_of, next, begin, step, finish, read, start, mailbox}
 use Rattle.mailbox.proofs.Tests.{neither}
-use Rattle.mailbox.proofs.Accepts.{atom_stays, names_text, is_dot}
+use Rattle.mailbox.proofs.Accepts.{atom_stays, names_text}
 use Rattle.mailbox.proofs.Refusals.{refuses}
-use Rattle.comment.specs.Ends.{Watch, Stopped, answered, until, onward, end, gap_byte, Passes, GapEnd}
+use Rattle.comment.specs.Ends.{Watch, answered, until, onward, end, gap_byte, Passes, GapEnd}
 use Rattle.comment.specs.declared.End.{End}
 use Rattle.comment.proofs.Laws.{turn, turn_at, dies_at, end_at, goes_on}
 use Rattle.pieces.specs.Ends.{atom_end, dot_byte, DotEnd, QuoteEnd, WordEnd}
 use Rattle.pieces.proofs.Laws.{AtomEnd, atom_end_lem}
-use Rattle.signer.specs.Ends.{home_stage, half_stage, stage, Quiet, toward, NamesEnd, HalfEnd}
+use Rattle.signer.specs.Ends.{home_stage, half_stage, Quiet, toward, NamesEnd, HalfEnd}
 use Rattle.signer.specs.declared.Passed.{Passed}
 
 abbrev pub passed : ℕ → ℕ → ℕ → ℕ → Passed
