@@ -1,11 +1,6 @@
 -- What the functions answer: how far the reader of the mailbox has come behind a piece, and in which state.
-<<<<<<< ours
 use Rattle.std.specs.Prelude.{Bool, false, ◌||◌, List, [], ◌∷◌, ◌≡◌, ℕ, suc, ◌+◌, ◌≤◌, T, eqb, length, drop, get_or, if◌then◌else◌}
 use Rattle.rules.specs.Lists.{Stops, run}
-=======
-use Rattle.std.specs.Prelude.{Bool, false, ◌||◌, List, ◌∷◌, ◌≡◌, ℕ, suc, ◌+◌, ◌≤◌, T, eqb, length, drop, get_or}
-use Rattle.rules.specs.Lists.{Stops, run}
->>>>>>> theirs
 use Rattle.mailbox.specs.Grammar.{atext}
 use Rattle.mailbox.specs.Reader.{Half, home, names, some, quote, quote_taken, text, dotted}
 use Rattle.comment.specs.Ends.{Watch, until, onward, end}

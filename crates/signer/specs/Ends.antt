@@ -1,9 +1,5 @@
 -- What the functions answer: how far the reader of the mailbox has come, and in which state.
-<<<<<<< ours
 use Rattle.std.specs.Prelude.{Bool, false, List, ◌≡◌, ℕ, ◌≤◌, eqb, length, drop, if◌then◌else◌}
-=======
-use Rattle.std.specs.Prelude.{false, List, ◌≡◌, ℕ, ◌≤◌, eqb, length, drop}
->>>>>>> theirs
 use Rattle.mailbox.specs.Grammar.{refused}
 use Rattle.mailbox.specs.Reader.{Half, Home, State, local, domain, names, opened, behind, closed, home, atom, quote, quote_taken, text, dotted, inside, inside_taken, dead, sign_of, next, start}
 use Rattle.comment.specs.Ends.{Watch, Stopped, answered, until, end, GapEnd}
