@@ -1,6 +1,6 @@
 -- The contracts decide: two ends of which one of them holds are the same. Each is told by a reading that is stopped behind the piece.
 -- Assumes nothing.
-use Rattle.std.specs.Prelude.{if◌then◌else◌}
+use Rattle.std.specs.Prelude.{cond, if◌then◌else◌}
 use mathlib.Core.Bool.{Bool, true, false, not}
 use mathlib.Core.List.{List, [], ◌∷◌}
 use mathlib.Core.Path.{◌≡◌, refl, sym, ap, ◌∙◌}
@@ -122,8 +122,8 @@ comment_end_decides s at allowed e f x y =
 pub gap_step_decides : (s : List ℕ) (at : ℕ) (e f : End) → GapStep s at e → GapStep s at f → e ≡ f
 gap_step_decides s at e f x y = go (eqb (get_or s at 0) 40) x y
   where
-    go : (b : Bool) → (if b then CommentEnd s (suc at) in_comment e else (e ≡ end 0 (if white_byte (get_or s at 0) then suc at else at)))
-        → (if b then CommentEnd s (suc at) in_comment f else (f ≡ end 0 (if white_byte (get_or s at 0) then suc at else at))) → e ≡ f
+    go : (b : Bool) → cond b (CommentEnd s (suc at) in_comment e) (e ≡ end 0 (if white_byte (get_or s at 0) then suc at else at))
+        → cond b (CommentEnd s (suc at) in_comment f) (f ≡ end 0 (if white_byte (get_or s at 0) then suc at else at)) → e ≡ f
     go true i j = comment_end_decides s (suc at) in_comment e f i j
     go false i j = i ∙ sym j
 

@@ -1,5 +1,5 @@
 -- What the reader does from a place on: laws of a watched reading, and what each function adds to it. Assumes nothing.
-use Rattle.std.specs.Prelude.{if◌then◌else◌}
+use Rattle.std.specs.Prelude.{cond, if◌then◌else◌}
 use mathlib.Core.Bool.{Bool, true, false, not}
 use mathlib.Core.List.{List, [], ◌∷◌}
 use mathlib.Core.Path.{◌≡◌, refl, sym, ap, ◌∙◌}
@@ -304,7 +304,7 @@ steps : (s : List ℕ) (p : ℕ) (e : End) → p < length s → GapStep s p e �
 steps s p e l x = go (eqb (get_or s p 0) 40) (white_byte (get_or s p 0)) refl refl x
   where
     go : (b d : Bool) → eqb (get_or s p 0) 40 ≡ b → white_byte (get_or s p 0) ≡ d
-        → (if b then CommentEnd s (suc p) in_comment e else (e ≡ end 0 (if d then suc p else p))) → Stepped s p e
+        → cond b (CommentEnd s (suc p) in_comment e) (e ≡ end 0 (if d then suc p else p)) → Stepped s p e
     go true d f g y = over_comment s p e l (eqb→eq (get_or s p 0) 40 (rw f tt)) y
     go false true f g y = rw y (over_white s p l g)
     go false false f g y = rw y (over_none s p l g f)

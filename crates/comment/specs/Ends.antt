@@ -1,5 +1,5 @@
 -- What the functions answer: how far the reader of the mailbox (mailbox/specs/Reader) has come behind a piece, and in which state.
-use Rattle.std.specs.Prelude.{Bool, true, false, ◌||◌, List, [], ◌∷◌, ◌≡◌, ℕ, suc, ◌≤◌, T, eqb, length, drop, get_or, if◌then◌else◌}
+use Rattle.std.specs.Prelude.{Bool, true, false, cond, ◌||◌, List, [], ◌∷◌, ◌≡◌, ℕ, suc, ◌≤◌, T, eqb, length, drop, get_or, if◌then◌else◌}
 use Rattle.rules.specs.Lists.{Stops}
 use Rattle.mailbox.specs.Grammar.{white_byte, comment_text, quote_text, takes, Answer, refused, deepest}
 use Rattle.mailbox.specs.Reader.{Home, State, home, quote, quote_taken, inside, inside_taken, dead, closing, step, finish}
@@ -95,8 +95,9 @@ Passes w h = Unseen w h × ((c : ℕ) (t : List ℕ) → T (gap_byte c) → w.ov
 -- one byte of white space or one comment; the same place where there is neither
 abbrev pub GapStep : List ℕ → ℕ → End → Type 0
 GapStep s at e =
-    if eqb (get_or s at 0) 40 then CommentEnd s (suc at) in_comment e
-    else (e ≡ end 0 (if white_byte (get_or s at 0) then suc at else at))
+    cond (eqb (get_or s at 0) 40)
+    (CommentEnd s (suc at) in_comment e)
+    (e ≡ end 0 (if white_byte (get_or s at 0) then suc at else at))
 
 -- over all white space and comments from `at` on
 pub record GapEnd (s : List ℕ) (at : ℕ) (e : End) : Type 0 where
