@@ -1,6 +1,6 @@
 -- K2 and K8: offsets and values stay. Each answer, without the ending and the numbers that stand behind its values, is document 01's;
 -- a step's for every cursor that is right. Assumes nothing.
-use mathlib.Core.Bool.{Bool, true, false}
+use mathlib.Core.Bool.{true, false}
 use mathlib.Core.List.{List, [], ◌∷◌, ◌++◌}
 use mathlib.Core.Option.{Option, none, some}
 use mathlib.Core.Path.{◌≡◌, refl, sym, ap}
@@ -11,7 +11,7 @@ use Rattle.rules.specs.Answers.{Said, says, Row, row, judged, start_says, traile
 use Rattle.rules.specs.Number.{Right, line_number, moved_on}
 use Rattle.rules.specs.Paragraph.{block_start, ending_below}
 use Rattle.rules.specs.Record.{record_of}
-use Rattle.rules.specs.Trailer.{Trailer, end_of, ending_of, lookup, only, place_of, walk_from}
+use Rattle.rules.specs.Trailer.{Trailer, end_of, lookup, only, place_of, walk_from}
 use Rattle.rules.specs.declared.Cursor.{Cursor}
 use Rattle.rules.specs.declared.Kind.{Kind}
 use Rattle.rules.specs.declared.StartFound.{StartFound}

@@ -1,7 +1,7 @@
 -- K8: from a right cursor every number of a walk by steps is right, every next cursor too, and the numbers rise strictly. Assumes nothing.
 use mathlib.Core.List.{List, [], ◌∷◌, map}
 use mathlib.Core.Path.{◌≡◌, refl, sym, ap, ◌∙◌}
-use Prim.Native.Nat.{ℕ, ◌≤◌}
+use Prim.Native.Nat.{ℕ}
 use native.Mathlib.Omega.{arith}
 use lib.ListN.{take}
 use Rattle.rules.proofs.Number.{moved_right, numbers_rise}

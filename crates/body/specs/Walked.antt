@@ -1,6 +1,6 @@
 -- A walk by single steps: document 02, K8. "A walk stays linear" since each step counts on from its cursor; that the numbers are right
 -- is proved (proofs/Walked, numbers_right and lines_rise).
-use Rattle.std.specs.Prelude.{List, [], ◌∷◌, map, ◌≡◌, ℕ}
+use Rattle.std.specs.Prelude.{List, [], ◌∷◌, ◌≡◌, ℕ}
 use Rattle.rules.specs.Trailer.{only, walk_from}
 use Rattle.rules.specs.declared.Cursor.{Cursor}
 use Rattle.rules.specs.declared.Kind.{Kind}

@@ -1,8 +1,8 @@
 -- The tests of a content as the code makes them, one after the other. Assumes nothing.
-use mathlib.Core.Bool.{Bool, true, false, not, ◌&&◌}
+use mathlib.Core.Bool.{true, false}
 use mathlib.Core.List.{List, [], ◌∷◌}
-use mathlib.Core.Path.{◌≡◌, refl, sym, ap, ◌∙◌}
-use Prim.Native.Nat.{ℕ, suc, ◌+◌, ◌-◌, ◌*◌, ◌≤◌, ◌<◌}
+use mathlib.Core.Path.{◌≡◌, refl, sym}
+use Prim.Native.Nat.{ℕ, ◌≤◌, ◌<◌}
 use native.Mathlib.Omega.{arith}
 use lib.Dec.{T, T_not, not_T, eqb, eqb→eq, eqb_refl, leb, leb→le, le→leb}
 use lib.ListN.{length, get_or}
@@ -99,3 +99,8 @@ records_number v l a n =
     same_test (leb (number_of v) most_records) (good_records v)
     (λ m. parts_records v (record { has_digits = length-filled v l; all_digits = rw a tt; without_needless_zero = no_zero_first v n }) m)
     (λ t. (records_parts v t).1)
+
+-- the tests in the order of the code
+pub ruleset vehicle_tests = (vehicle_empty, vehicle_long, vehicle_digits)
+
+pub ruleset records_tests = (records_empty, records_long, records_others, records_one, records_zero, records_number)

@@ -47,6 +47,7 @@ pub fn number_of(v: &[u8]) -> usize
 }
 
 // A vehicle: 1 to 6 digits.
+#[tactic(auto, using(crate::proofs::Tests::vehicle_tests))]
 fn is_vehicle(v: &[u8]) -> bool
     ensures { result ≡ good_vehicle v.now }
 {
@@ -60,6 +61,7 @@ fn is_vehicle(v: &[u8]) -> bool
 }
 
 // A count: a decimal up to 1,000,000 without needless zeros. Its length is judged before its number, which then does not overflow.
+#[tactic(auto, using(crate::proofs::Tests::records_tests))]
 fn is_records(v: &[u8]) -> bool
     ensures { result ≡ good_records v.now }
 {

@@ -6,7 +6,7 @@ use mathlib.Core.Path.{◌≡◌, refl, ap}
 use Prim.Native.Nat.{ℕ}
 use native.Mathlib.Omega.{arith}
 use lib.Dec.{eqb}
-use Rattle.rules.specs.Answers.{Said, says, number, over_limit}
+use Rattle.rules.specs.Answers.{says, number, over_limit}
 use Rattle.rules.specs.Paragraph.{message_trailers}
 use Rattle.closing.specs.Answers.{erase_answer, flag, note_answer, refusal_says}
 use Rattle.closing.specs.Closing.{answer}

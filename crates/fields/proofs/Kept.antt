@@ -1,18 +1,17 @@
 -- A raw value passed line by line up to the first line that trims to something; two such searches tell the sole line.
 -- Assumes nothing.
 use Rattle.std.specs.Prelude.{if◌then◌else◌}
-use mathlib.Core.Bool.{Bool, true, false, not, ◌||◌}
+use mathlib.Core.Bool.{not, ◌||◌}
 use mathlib.Core.List.{List, [], ◌∷◌, map}
 use mathlib.Core.Path.{◌≡◌, refl, sym, ap, ◌∙◌}
-use Prim.Native.Nat.{ℕ, zero, suc, ◌+◌, ◌-◌, ◌≤◌, ◌<◌}
+use Prim.Native.Nat.{ℕ, ◌+◌, ◌-◌, ◌≤◌, ◌<◌}
 use native.Mathlib.Omega.{arith}
 use lib.Dec.{T}
 use lib.ListN.{length, take, drop, drop_of_length-le, length-drop}
-use lib.Seq.{take-take, drop-drop, length-take-le}
+use lib.Seq.{drop-drop, length-take-le}
 use Rattle.rules.specs.Lines.{Line, lines}
 use Rattle.rules.specs.Lists.{any, filled}
 use Rattle.rules.specs.White.{trim, trim_at}
-use Rattle.rules.specs.declared.Part.{Part}
 use Rattle.rules.proofs.Lists.{is_true, is_false}
 use Rattle.rules.proofs.Parts.{kept_part}
 use Rattle.rules.proofs.White.{trim_fits}

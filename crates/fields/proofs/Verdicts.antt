@@ -1,15 +1,15 @@
 -- The first refusal that the code finds is the answer's; and where it finds none, what it has seen is the note. Assumes nothing.
 use Rattle.std.specs.Prelude.{if◌then◌else◌}
-use mathlib.Core.Bool.{Bool, true, false, not, ◌||◌, or-false}
+use mathlib.Core.Bool.{Bool, true, false, not, or-false}
 use mathlib.Core.List.{List, [], ◌∷◌}
 use mathlib.Core.Path.{◌≡◌, refl, sym, ap, ◌∙◌}
-use Prim.Native.Nat.{ℕ, suc, ◌+◌, ◌-◌, ◌≤◌, ◌<◌}
+use Prim.Native.Nat.{ℕ, suc, ◌+◌, ◌-◌, ◌≤◌}
 use native.Mathlib.Omega.{arith}
 use borrow.Author.Tests.{ne_eqb, lt-ltb, eqb-true, not-false}
 use lib.Dec.{T, eqb, ltb, leb}
-use lib.ListN.{length, take, drop, length-drop}
+use lib.ListN.{length, drop, length-drop}
 use lib.Seq.{length-take-le}
-use Rattle.rules.specs.Answers.{Said, says as said}
+use Rattle.rules.specs.Answers.{says as said}
 use Rattle.rules.specs.Lists.{any, all, filled, past}
 use Rattle.rules.specs.Trailer.{Trailer}
 use Rattle.rules.proofs.Lists.{and_left, is_true}

@@ -14,7 +14,7 @@ use rules::Part;
 
 // A field as it is seen among the trailers: how many have its name, and where one alone has, its content's place and whether that
 // is good.
-#[derive(Drop)]
+#[derive(Clone, Copy)]
 pub struct Seen {
     pub count: usize,
     pub start: usize,

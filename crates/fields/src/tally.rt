@@ -9,7 +9,7 @@ use text::fixed::eq_ignore_ascii_case;
 use trailer::walk::{NextTrailer, next_trailer_from};
 
 // How many trailers have a name, and where the raw value of the last of them stands.
-#[derive(Drop)]
+#[derive(Clone, Copy)]
 pub struct Tally {
     pub count: usize,
     pub start: usize,

@@ -87,3 +87,20 @@ id_long size s n = rw (ne_eqb (length s) size n)
 pub id_is : (size : ℕ) (s : List ℕ) (b : Bool) → length s ≡ size → all hex_digit s ≡ b → identifier size s ≡ b
 unfolding identifier
 id_is size s b e d = rw (eq-eqb (length s) size e, d)
+
+-- ---- a name from a place on
+
+pub name_ends_lf : (s : List ℕ) (i : ℕ) → i < length s → get_or s i 0 ≡ 10 → length (run name_byte (drop i s)) ≡ 0
+name_ends_lf s i h e = run_stops name_byte s i h (name_lf (get_or s i 0) e)
+
+pub name_ends_space : (s : List ℕ) (i : ℕ) → i < length s → get_or s i 0 ≡ 32 → length (run name_byte (drop i s)) ≡ 0
+name_ends_space s i h e = run_stops name_byte s i h (name_space (get_or s i 0) e)
+
+pub name_goes_on : (s : List ℕ) (i : ℕ) → i < length s → (get_or s i 0 ≡ 10 → ⊥) → (get_or s i 0 ≡ 32 → ⊥)
+    → length (run name_byte (drop i s)) ≡ suc (length (run name_byte (drop (i + 1) s)))
+name_goes_on s i h n m = run_on name_byte s i h (name_byte_lem (get_or s i 0) n m)
+
+pub name_over : (s : List ℕ) (i : ℕ) → length s ≤ i → length (run name_byte (drop i s)) ≡ 0
+name_over s i h = run_over name_byte s i h
+
+pub ruleset name_steps = (name_ends_lf, name_ends_space, name_goes_on, name_over)

@@ -90,6 +90,7 @@ fn is_one_of_four(name: &[u8]) -> bool
 }
 
 // Where the name that starts at `at` ends: at the first space or LF, or at the end.
+#[tactic(auto, using(crate::proofs::Laws::name_steps))]
 pub fn name_end(content: &[u8], at: usize) -> usize
     requires { at ≤ length content.now }
     ensures { (result ≤ length content.now) × (result ≡ at + length (run name_byte (drop at content.now))) }

@@ -1,15 +1,14 @@
 -- A parent's line at a place, by what stands at the front there. Assumes nothing.
-use Rattle.std.specs.Prelude.{if◌then◌else◌}
-use mathlib.Core.Bool.{Bool, true, ◌&&◌}
+use mathlib.Core.Bool.{true, ◌&&◌}
 use mathlib.Core.List.{List, [], ◌∷◌, ◌++◌}
 use mathlib.Core.Path.{◌≡◌, refl, sym, ap, ◌∙◌}
-use Prim.Native.Nat.{ℕ, suc, ◌+◌, ◌≤◌, ◌<◌}
+use Prim.Native.Nat.{ℕ, ◌+◌, ◌≤◌, ◌<◌}
 use native.Mathlib.Omega.{arith}
 use borrow.Author.Tests.{ltb-true}
 use lib.Dec.{T, eqb, ltb, eqb→eq}
 use lib.ListN.{length, take, drop, take-append-drop, length-append, length-drop}
 use Rattle.rules.specs.Bytes.{bytes, LF, space}
-use Rattle.rules.specs.Lines.{Line, inner, lines}
+use Rattle.rules.specs.Lines.{inner, lines}
 use Rattle.rules.specs.Lists.{All, all, first, starts}
 use Rattle.rules.proofs.Lists.{and_left, and_right, all_append, all_of, is_true}
 use Rattle.rules.proofs.White.{starts_is}

@@ -1,3 +1,2 @@
--- What the walk of `list_from` rests on: a slice that is lent again, and the turns of a table of records.
-pub mod Again
+-- What `list` rests on: the turns of a table of records.
 pub mod Entries

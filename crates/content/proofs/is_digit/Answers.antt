@@ -1,0 +1,12 @@
+-- `content::is_digit` meets its contract: the second test where the first holds. Assumes nothing.
+use borrow.Author.Tests.{le-leb, lt-leb}
+use Rattle.closing.specs.Contents.{digit}
+use Rattle.content.proofs.is_digit.Goals as goal
+
+pub returns-then-byte-ge48 : goal.returns-then-byte-ge48
+unfolding digit
+returns-then-byte-ge48 c = rw (le-leb _ _ c.if-byte-ge48.true)
+
+pub returns-else-byte-ge48 : goal.returns-else-byte-ge48
+unfolding digit
+returns-else-byte-ge48 c = rw (lt-leb _ _ c.if-byte-ge48.false)

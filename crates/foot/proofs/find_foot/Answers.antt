@@ -1,0 +1,40 @@
+-- `foot::find_foot` meets its contract. Assumes nothing.
+use mathlib.Core.Path.{sym, ◌∙◌}
+use native.Mathlib.Omega.{arith}
+use borrow.Author.Rules.{rules}
+use Rattle.paragraph.proofs.Scanned.{paragraph_within}
+use Rattle.foot.proofs.Finding.{found_answer, more_answer, start_is, top_inside}
+use Rattle.foot.proofs.Told.{foot_inside}
+use Rattle.foot.proofs.find_foot.Goals as goal
+
+pub line_start-top-requires : goal.line_start-top-requires
+line_start-top-requires c =
+    (paragraph_within c.args.tail.now c.last_paragraph-paragraph.result c.last_paragraph-paragraph.ensures).0
+
+pub returns-then-whole-top : goal.returns-then-whole-top
+returns-then-whole-top c =
+    let a = c.args in
+    more_answer a.tail.now c.last_paragraph-paragraph.result c.last_paragraph-paragraph.ensures a.whole c.line_start-top.result c.line_start-top.ensures
+    c.if-whole-top.true
+
+pub walk_start-at-requires : goal.walk_start-at-requires
+walk_start-at-requires c =
+    let (start, few) = paragraph_within c.args.tail.now c.last_paragraph-paragraph.result c.last_paragraph-paragraph.ensures in
+    (omega (arith, few, c.well_formed), omega (arith, few, c.well_formed))
+
+pub count_lines-lines-requires : goal.count_lines-lines-requires
+count_lines-lines-requires c =
+    let a = c.args in
+    let start = c.walk_start-at.ensures ∙ sym (start_is a.tail.now c.last_paragraph-paragraph.result c.last_paragraph-paragraph.ensures) in
+    omega (arith, start, foot_inside a.tail.now)
+
+pub count_lines-looked-requires : goal.count_lines-looked-requires
+count_lines-looked-requires c =
+    top_inside c.args.tail.now c.last_paragraph-paragraph.result c.last_paragraph-paragraph.ensures c.line_start-top.result c.line_start-top.ensures
+
+pub returns : goal.returns
+returns c =
+    let a = c.args in
+    found_answer a.tail.now c.last_paragraph-paragraph.result c.last_paragraph-paragraph.ensures a.whole c.line_start-top.result
+    c.walk_start-at.result c.count_lines-lines.result c.count_lines-looked.result c.line_start-top.ensures c.if-whole-top.false
+    c.walk_start-at.ensures c.count_lines-lines.ensures c.count_lines-looked.ensures
