@@ -1,9 +1,5 @@
 -- A field as it is seen, and the first refusal by what is seen of the three.
-<<<<<<< ours
 use Rattle.std.specs.Prelude.{Bool, true, not, List, ◌≡◌, ℕ, ◌+◌, ◌-◌, ◌≤◌, eqb, length, take, drop, if◌then◌else◌}
-=======
-use Rattle.std.specs.Prelude.{true, not, List, ◌≡◌, ℕ, ◌+◌, ◌-◌, ◌≤◌, eqb, length, take, drop}
->>>>>>> theirs
 use Rattle.rules.specs.Lines.{lines}
 use Rattle.rules.specs.Trailer.{unfolded}
 use Rattle.closing.specs.Contents.{good}

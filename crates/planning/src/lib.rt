@@ -349,7 +349,7 @@ fn settle(
         return begin_at(text, cursor, looked, told);
     }
     let needed = count(text, at);
-    if room < needed.records {
+    if rooms < needed.records {
         return refuse(Listing::ShortTable(needed));
     }
     if room < needed.bytes {
