@@ -4,7 +4,7 @@
 use rules::{Cursor, Places, TrailerRef};
 
 // The records, and the bytes of the buffer: those that are written, or that are needed.
-#[derive(Drop)]
+#[derive(Clone, Copy)]
 pub struct Counts {
     pub records: usize,
     pub bytes: usize,
