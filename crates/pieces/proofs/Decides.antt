@@ -1,5 +1,5 @@
 -- The contracts decide: two ends of which one of them holds are the same. Assumes nothing.
-use Rattle.std.specs.Prelude.{if◌then◌else◌}
+use Rattle.std.specs.Prelude.{cond}
 use mathlib.Core.Bool.{Bool, true, false, not}
 use mathlib.Core.List.{List}
 use mathlib.Core.Path.{◌≡◌, refl, sym, ◌∙◌}
@@ -46,6 +46,6 @@ quote_end_decides s at e f x y =
 pub word_end_decides : (s : List ℕ) (at : ℕ) (e f : End) → WordEnd s at e → WordEnd s at f → e ≡ f
 word_end_decides s at e f x y = go (eqb (get_or s at 0) 34) x y
   where
-    go : (b : Bool) → (if b then QuoteEnd s at e else (e ≡ end 0 (atom_end s at))) → (if b then QuoteEnd s at f else (f ≡ end 0 (atom_end s at))) → e ≡ f
+    go : (b : Bool) → cond b (QuoteEnd s at e) (e ≡ end 0 (atom_end s at)) → cond b (QuoteEnd s at f) (f ≡ end 0 (atom_end s at)) → e ≡ f
     go true i j = quote_end_decides s at e f i j
     go false i j = i ∙ sym j

@@ -1,5 +1,5 @@
 -- What the functions answer: how far the reader of the mailbox has come behind a piece, and in which state.
-use Rattle.std.specs.Prelude.{Bool, false, ◌||◌, List, [], ◌∷◌, ◌≡◌, ℕ, suc, ◌+◌, ◌≤◌, T, eqb, length, drop, get_or, if◌then◌else◌}
+use Rattle.std.specs.Prelude.{Bool, false, cond, ◌||◌, List, [], ◌∷◌, ◌≡◌, ℕ, suc, ◌+◌, ◌≤◌, T, eqb, length, drop, get_or}
 use Rattle.rules.specs.Lists.{Stops, run}
 use Rattle.mailbox.specs.Grammar.{atext}
 use Rattle.mailbox.specs.Reader.{Half, home, names, some, quote, quote_taken, text, dotted}
@@ -36,4 +36,4 @@ pub record QuoteEnd (s : List ℕ) (at : ℕ) (e : End) : Type 0 where
 
 -- over a word, "atoms or quoted strings"; the same place where there is none
 abbrev pub WordEnd : List ℕ → ℕ → End → Type 0
-WordEnd s at e = if eqb (get_or s at 0) 34 then QuoteEnd s at e else (e ≡ end 0 (atom_end s at))
+WordEnd s at e = cond (eqb (get_or s at 0) 34) (QuoteEnd s at e) (e ≡ end 0 (atom_end s at))

@@ -1,6 +1,6 @@
 -- What the reader does from a place on, step by step of the functions: over the words up to the `<`, over each half of the address,
 -- and over what is behind the `>`. Assumes nothing.
-use Rattle.std.specs.Prelude.{if◌then◌else◌}
+use Rattle.std.specs.Prelude.{cond, if◌then◌else◌}
 use mathlib.Core.Bool.{Bool, true, false, not, ◌||◌}
 use mathlib.Core.List.{List, [], ◌∷◌}
 use mathlib.Core.Logic.{◌⊎◌, inl, inr}
@@ -138,7 +138,7 @@ no_word s i l e n = record {
 word : (s : List ℕ) (i : ℕ) (e : End) → i < length s → WordEnd s i e → Word s i e
 word s i e l x = go (eqb (get_or s i 0) 34) (atext (get_or s i 0)) refl refl x
   where
-    go : (b d : Bool) → eqb (get_or s i 0) 34 ≡ b → atext (get_or s i 0) ≡ d → (if b then QuoteEnd s i e else (e ≡ end 0 (atom_end s i))) → Word s i e
+    go : (b d : Bool) → eqb (get_or s i 0) 34 ≡ b → atext (get_or s i 0) ≡ d → cond b (QuoteEnd s i e) (e ≡ end 0 (atom_end s i)) → Word s i e
     go true d f g y = in_quotes s i e l (eqb→eq (get_or s i 0) 34 (rw f tt)) y
     go false true f g y = rw y (atom_word s i l (rw g tt) (atom_end_lem s (suc i) (atom_end s i) (omega arith) (atom_next s i l g)))
     go false false f g y = rw (y, atom_none s i l g) (no_word s i l g f)
