@@ -1,5 +1,5 @@
 // All trailers at once, into a table of records and a buffer that are lent. Everything is decided where the listing begins and made by the
-// step; this function stores. It is walked by hand.
+// step; this function stores.
 #![tactic(auto)]
 
 ghost use Rattle.planning.specs.Scopes.{Lists};

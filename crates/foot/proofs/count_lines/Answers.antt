@@ -1,9 +1,9 @@
--- `foot::count_lines` meets its contract. Assumes nothing.
+-- `foot::count_lines` meets its contract.
 use mathlib.Core.Path.{sym}
 use native.Mathlib.Omega.{arith}
 use borrow.Author.Rules.{rules}
-use Prim.Native.Nat.{◌-◌, ◌≤◌, ◌<◌, ◌^◌}
-use lib.ListN.{length, drop_of_length-le}
+use Prim.Native.Nat.{◌-◌, ◌<◌, ◌^◌}
+use lib.ListN.{length}
 use Rattle.rules.proofs.Number.{feeds_within}
 use Rattle.foot.proofs.Finding.{count_is}
 use Rattle.foot.proofs.count_lines.Goals as goal

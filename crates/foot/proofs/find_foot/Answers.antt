@@ -1,7 +1,6 @@
--- `foot::find_foot` meets its contract. Assumes nothing.
+-- `foot::find_foot` meets its contract.
 use mathlib.Core.Path.{sym, ◌∙◌}
 use native.Mathlib.Omega.{arith}
-use borrow.Author.Rules.{rules}
 use Rattle.paragraph.proofs.Scanned.{paragraph_within}
 use Rattle.foot.proofs.Finding.{found_answer, more_answer, start_is, top_inside}
 use Rattle.foot.proofs.Told.{foot_inside}
