@@ -1,2 +1,3 @@
--- What `list` rests on: the turns of a table of records.
+-- A slice that is lent again, and the turns of a table of records.
+pub mod Again
 pub mod Entries
