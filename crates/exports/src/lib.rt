@@ -1,5 +1,5 @@
 // The public calls for C and Rust, as numbers and slices: include/sluicepod.h says how they are called there. Each makes one
-// call of crates/body or crates/message, or of what its module names, and puts the numbers of its answer into `result`.
+// call of crates/body or crates/message, or of what its module names, and puts the numbers of its answer into `res`.
 #![tactic(auto)]
 
 pub mod additions;
@@ -29,7 +29,7 @@ use numbers::{
 };
 use rules::{BlockCursor, Cursor, Part};
 
-// The code where `result` is too short.
+// The code where `res` is too short.
 pub const SHORT_RESULT: u32 = 255;
 
 // The code of a number that is no kind's.

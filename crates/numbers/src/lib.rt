@@ -11,7 +11,7 @@ use rules::{
     ValueFound, WalkFound, YesNo,
 };
 
-// How many entries `result` must have: the first says how many values there are, and no answer has more than the others hold.
+// How many entries `res` must have: the first says how many values there are, and no answer has more than the others hold.
 pub const RESULT_LEN: usize = 16;
 
 // Of `place_of`: 0 for the input or 1 for the buffer, the value's start and its end.
@@ -29,7 +29,7 @@ pub enum Asked {
     NoKind,
 }
 
-// Puts an answer's values behind their count at the front of `result`; returns its code.
+// Puts an answer's values behind their count at the front of `res`; returns its code.
 pub fn put(code: u32, values: &[usize], res: &mut [usize]) -> u32
     requires { (length values.now < result_length) × (result_length ≤ length res.old) }
     ensures value { result ≡ code_of (says code values.now) res.old }
