@@ -1,3 +1,4 @@
+-- `adder::find_nul` meets its contract. Invariant: `i` is between `at` and the end. Measure: the bytes ahead.
 use Rattle.std.proofs.Common.{◌-◌, ◌≤◌, length}
 use Rattle.adder.proofs.find_nul.Given as goal
 
