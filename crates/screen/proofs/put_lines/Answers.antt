@@ -33,4 +33,4 @@ loop-places-preserved c =
     let p = c.put_line-to in
     let h = here (goal.at.loop-places-preserved c).In-Trailer in
     let (size, room, done) = line_written h l.to p.result l.out p.new.out l.invariant.2 p.ensures.value p.ensures.out_after in
-    (h.fits.3, size ∙ l.invariant.1, room, done ∙ l.invariant.3)
+    (omega (arith, h.fits), size ∙ l.invariant.1, room, done ∙ l.invariant.3)
