@@ -1,0 +1,2 @@
+-- A law of parts, for the listing.
+pub mod Short
