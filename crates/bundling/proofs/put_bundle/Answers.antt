@@ -6,22 +6,14 @@ use Rattle.bundling.proofs.Writing as laws
 use Rattle.bundling.proofs.put_bundle.Goals as goal
 
 pub put_u32-requires : goal.put_u32-requires
-put_u32-requires c =
-    let input = c.args.input.now in
-    let ranges = c.args.ranges.now in
-    let d = c.args.out.now in
-    let size = length_bundle (lent input ranges) in
-    let half = laws.halved input ranges c.requires.0 in
-    omega (arith, size, c.requires.2)
+put_u32-requires c = omega (arith, length_bundle (lent c.args.input.now c.args.ranges.now), c.requires.2)
 
 pub put_u32-requires-2 : goal.put_u32-requires-2
 put_u32-requires-2 c =
     let input = c.args.input.now in
     let ranges = c.args.ranges.now in
     let d = c.args.out.now in
-    let size = length_bundle (lent input ranges) in
-    let half = laws.halved input ranges c.requires.0 in
-    omega (arith, size, c.requires.2, laws.size_one input ranges d c.put_u32.new.out d d c.requires.0 c.requires.2 c.put_u32.ensures)
+    omega (arith, length_bundle (lent input ranges), c.requires.2, laws.size_one input ranges d c.put_u32.new.out d d c.requires.0 c.requires.2 c.put_u32.ensures)
 
 pub put_ends-requires : goal.put_ends-requires
 put_ends-requires c =

@@ -12,6 +12,7 @@ use Rattle.commit.specs.Grammar.{name_byte}
 use Rattle.judge.proofs.Cuts.{Cut, cut, behind_name, name_unended, empty_line_lem, name_alone, text_unended, spaced_line_lem, named_line_lem}
 use Rattle.judge.proofs.Parents.{parent_line}
 use Rattle.judge.proofs.line_turn.Goals as goal
+use Rattle.judge.proofs.line_turn.Goals.{After-find_lf-end}
 
 -- a parent's line stands here
 pub returns-then-is_parent_front : goal.returns-then-is_parent_front
@@ -45,63 +46,45 @@ returns-then-content-name-eq10 c =
     let f = c.name_end-name in
     name_alone a.content.now a.at a.phase f.result (name a.content.now a.at f.result c.requires.0 f.ensures.1) (omega arith) c.if-content-name-eq10.true c.if-name-at.false
 
+-- both, where the LF has been looked for
+cuts : (w : After-find_lf-end)
+    → Cut name_byte w.args.content.now w.args.at w.name_end-name.result × Cut inner w.args.content.now (w.name_end-name.result + 1) w.find_lf-end.result
+cuts w =
+    let a = w.args in
+    let f = w.name_end-name in
+    let k = name a.content.now a.at f.result w.requires.0 f.ensures.1 in
+    (k, text a.content.now a.at f.result w.find_lf-end.result k (omega arith) w.if-content-name-eq10.false w.find_lf-end.ensures)
+
 pub returns-then-end-content : goal.returns-then-end-content
 returns-then-end-content c =
     let a = c.args in
-    let f = c.name_end-name in
-    let g = c.find_lf-end in
-    let n = c.if-content-name-eq10.false in
-    let k = name a.content.now a.at f.result c.requires.0 f.ensures.1 in
-    text_unended a.content.now a.at a.phase f.result g.result k (text a.content.now a.at f.result g.result k (omega arith) n g.ensures) (omega arith) n c.if-end-content.true
+    let t = cuts (goal.at.returns-then-end-content c).After-find_lf-end in
+    text_unended a.content.now a.at a.phase c.name_end-name.result c.find_lf-end.result t.0 t.1 (omega arith) c.if-content-name-eq10.false c.if-end-content.true
 
 pub overflow_add-result-then-name-at-2 : goal.overflow_add-result-then-name-at-2
 overflow_add-result-then-name-at-2 c =
-    let a = c.args in
-    let f = c.name_end-name in
-    let g = c.find_lf-end in
-    let k = name a.content.now a.at f.result c.requires.0 f.ensures.1 in
-    omega (arith, (text a.content.now a.at f.result g.result k (omega arith) c.if-content-name-eq10.false g.ensures).within)
+    omega (arith, (cuts (goal.at.overflow_add-result-then-name-at-2 c).After-find_lf-end).1.within)
 
 pub returns-then-name-at-2 : goal.returns-then-name-at-2
 returns-then-name-at-2 c =
     let a = c.args in
-    let f = c.name_end-name in
-    let g = c.find_lf-end in
-    let n = c.if-content-name-eq10.false in
-    let k = name a.content.now a.at f.result c.requires.0 f.ensures.1 in
-    let j = text a.content.now a.at f.result g.result k (omega arith) n g.ensures in
-    spaced_line_lem a.content.now a.at a.phase f.result g.result c.spaced_turn-turn.result k j (omega arith) n (omega (arith, j.within, c.if-end-content.false)) c.if-name-at-2.true c.spaced_turn-turn.ensures
+    let t = cuts (goal.at.returns-then-name-at-2 c).After-find_lf-end in
+    spaced_line_lem a.content.now a.at a.phase c.name_end-name.result c.find_lf-end.result c.spaced_turn-turn.result t.0 t.1 (omega arith) c.if-content-name-eq10.false (omega (arith, t.1.within, c.if-end-content.false)) c.if-name-at-2.true c.spaced_turn-turn.ensures
 
 pub slice_bounds-named_turn-count-2 : goal.slice_bounds-named_turn-count-2
 slice_bounds-named_turn-count-2 c =
-    let a = c.args in
-    let f = c.name_end-name in
-    let g = c.find_lf-end in
-    let k = name a.content.now a.at f.result c.requires.0 f.ensures.1 in
-    omega (arith, (text a.content.now a.at f.result g.result k (omega arith) c.if-content-name-eq10.false g.ensures).long)
+    omega (arith, (cuts (goal.at.slice_bounds-named_turn-count-2 c).After-find_lf-end).1.long)
 
 pub slice_bounds-named_turn-start-2 : goal.slice_bounds-named_turn-start-2
 slice_bounds-named_turn-start-2 c =
-    let a = c.args in
-    let f = c.name_end-name in
-    let g = c.find_lf-end in
-    let k = name a.content.now a.at f.result c.requires.0 f.ensures.1 in
-    omega (arith, (text a.content.now a.at f.result g.result k (omega arith) c.if-content-name-eq10.false g.ensures).long)
+    omega (arith, (cuts (goal.at.slice_bounds-named_turn-start-2 c).After-find_lf-end).1.long)
 
 pub slice_bounds-named_turn-end-2 : goal.slice_bounds-named_turn-end-2
 slice_bounds-named_turn-end-2 c =
-    let a = c.args in
-    let f = c.name_end-name in
-    let g = c.find_lf-end in
-    let k = name a.content.now a.at f.result c.requires.0 f.ensures.1 in
-    omega (arith, (text a.content.now a.at f.result g.result k (omega arith) c.if-content-name-eq10.false g.ensures).within)
+    omega (arith, (cuts (goal.at.slice_bounds-named_turn-end-2 c).After-find_lf-end).1.within)
 
 pub returns : goal.returns
 returns c =
     let a = c.args in
-    let f = c.name_end-name in
-    let g = c.find_lf-end in
-    let n = c.if-content-name-eq10.false in
-    let k = name a.content.now a.at f.result c.requires.0 f.ensures.1 in
-    let j = text a.content.now a.at f.result g.result k (omega arith) n g.ensures in
-    named_line_lem a.content.now a.at a.phase f.result g.result c.named_turn-turn.result k j (omega arith) n (omega (arith, j.within, c.if-end-content.false)) c.if-name-at-2.false c.named_turn-turn.ensures
+    let t = cuts (goal.at.returns c).After-find_lf-end in
+    named_line_lem a.content.now a.at a.phase c.name_end-name.result c.find_lf-end.result c.named_turn-turn.result t.0 t.1 (omega arith) c.if-content-name-eq10.false (omega (arith, t.1.within, c.if-end-content.false)) c.if-name-at-2.false c.named_turn-turn.ensures
