@@ -37,14 +37,14 @@ run_whole p (x ∷ s) = by (p x) (run_whole p s)
 
 -- ---- the token
 
-pub no_token : (s : List ℕ) → length s ≡ 0 → good_token s ≡ false
+pub no_token : (s : List ℕ) → eqb (length s) 0 ≡ true → false ≡ good_token s
 unfolding good_token
 no_token [] e = refl
-no_token (x ∷ s) e = absurd (omega arith)
+no_token (x ∷ s) e = absurd (let z : suc (length s) ≡ 0 = eqb→eq (suc (length s)) 0 (rw e tt) in omega arith)
 
-pub token_is : (s : List ℕ) (n : ℕ) → (length s ≡ 0 → ⊥) → n ≡ length (token_in s) → eqb n (length s) ≡ good_token s
+pub token_is : (s : List ℕ) (n : ℕ) → eqb (length s) 0 ≡ false → n ≡ length (token_in s) → eqb n (length s) ≡ good_token s
 unfolding good_token token_in
-token_is [] n z e = absurd (z refl)
+token_is [] n z e = absurd (cc)
 token_is (x ∷ s) n z e = rw e (run_whole token_byte (x ∷ s))
 
 -- ---- the value

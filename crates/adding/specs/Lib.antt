@@ -1,4 +1,3 @@
--- Document 02, K3: what `add_trailer` answers and writes; Pieces has the lengths that its parts speak of.
-pub mod Pieces
+-- Document 02, K3: what `add_trailer` answers and writes.
 pub mod Answers
 pub mod Examples

@@ -1,25 +1,26 @@
 // A trailer added to a message.
 #![tactic(auto)]
 
-ghost use Rattle.std.specs.Prelude.{◌≡◌, ◌+◌, ◌≤◌, length};
+ghost use Rattle.std.specs.Prelude.{None, Some, map, sum_by, ◌≡◌, ◌<◌, ◌≤◌, ◌^◌, length, if◌then◌else◌};
+ghost use Rattle.rules.specs.Answers.{limit};
+ghost use Rattle.rules.specs.Lists.{join};
 ghost use Rattle.copy.specs.Onto.{onto};
-ghost use Rattle.appending.specs.Added.{above, good_token, good_value, has_block, kept, new_line};
-ghost use Rattle.adding.specs.Answers.{add_answer, add_buffer, added_says};
-ghost use Rattle.adding.specs.Pieces.{ends_of, pieces_of, end_bytes};
+ghost use Rattle.appending.specs.Added.{added, empty_line, good_token, good_value, has_block, has_line, kept, lacking, new_end};
+ghost use Rattle.adding.specs.Answers.{add_answer, add_buffer, added_says, new_answer, new_buffer};
+ghost use Rattle.adding.specs.declared.AddingError.{AddingError};
 
 use copy::copy_at;
 use find::find_lf;
 use paragraph::{last_ending, trailer_block_start};
-use rules::{Ending, LIMIT};
+use rules::{Ending, LIMIT, TooLong, within_limit};
 use text::line::{is_blank_line, line_start};
 use title::title_and_body;
 use trailer::line::token_end;
 use white::trim;
 
-// Of `add_trailer`: the new message's length, or why nothing was written; `NoRoom` has the exact length needed.
-#[derive(Drop)]
-pub enum TrailerAdded {
-    Length(usize),
+// Why `add_trailer` wrote nothing; `NoRoom` has the exact length needed.
+#[derive(Clone, Copy, Debug, PartialEq, Eq)]
+pub enum AddingError {
     TooLong,
     BadToken,
     BadValue,
@@ -27,33 +28,19 @@ pub enum TrailerAdded {
     NoRoom(usize),
 }
 
-// Of how a line ended: the length of the LF that it lacks, and of the end of a new line below it.
-#[derive(Drop)]
-struct Ends {
-    lacking: usize,
-    end: usize,
-}
+impl From<TooLong> for AddingError {
+    ghost from_gives = { λ _ e. e ≡ AddingError.TooLong };
 
-// How long the pieces of a new message are: what is kept, the LF that its last line lacks, the empty line, a new line's end.
-#[derive(Drop)]
-struct Pieces {
-    kept: usize,
-    lacking: usize,
-    empty: usize,
-    end: usize,
+    fn from(_over: TooLong) -> AddingError {
+        AddingError::TooLong
+    }
 }
-
-// The longest end of a new line; a shorter one is its last byte.
-const LINE_END: [u8; 2] = *b"\r\n";
 
 // Whether `token` is letters, digits or hyphens, at least one.
 fn is_token(token: &[u8]) -> bool
     ensures { result ≡ good_token token.now }
 {
-    if token.len() == 0 {
-        return false;
-    }
-    token_end(token) == token.len()
+    !token.is_empty() && token_end(token) == token.len()
 }
 
 // Whether `value` has no LF and is its own trim.
@@ -67,126 +54,124 @@ fn is_value(value: &[u8]) -> bool
     part.end - part.start == value.len()
 }
 
-// Where the last non-blank line ends; 0 where there is none.
-fn kept_len(message: &[u8]) -> usize
-    ensures { result ≡ length (kept message.now) }
+// Where the last non-blank line ends; none where there is no such line.
+fn kept_len(message: &[u8]) -> Option<usize>
+    ensures { result ≡ (if has_line message.now then Some (length (kept message.now)) else None) }
 {
-    let mut end: usize = message.len();
+    let mut end = message.len();
     while end > 0 {
         let start = line_start(message, end);
         if !is_blank_line(&message[start..end]) {
-            return end;
+            return Some(end);
         }
         end = start;
     }
-    0
+    None
 }
 
 // Whether the body has an accepted block.
 fn has_block(message: &[u8]) -> bool
     ensures { result ≡ has_block message.now }
 {
-    let places = title_and_body(message);
-    let start = places.body_start;
+    let start = title_and_body(message).body_start;
     trailer_block_start(&message[start..]) < message.len() - start
 }
 
-// A CR alone is no LF; new lines end with CR LF below a line that did, and with LF below every other.
-fn ends_of(ending: Ending) -> Ends
-    ensures { result ≡ ends_of ending }
+// The LF that the last line lacks; a CR alone is none.
+fn lacking<'a>(ending: Ending) -> &'a [u8]
+    ensures { result.now ≡ lacking ending }
 {
     match ending {
-        Ending::Lf => Ends { lacking: 0, end: 1 },
-        Ending::CrLf => Ends { lacking: 0, end: 2 },
-        Ending::Cr => Ends { lacking: 1, end: 1 },
-        Ending::None => Ends { lacking: 1, end: 1 },
+        Ending::Lf | Ending::CrLf => b"",
+        Ending::Cr | Ending::None => b"\n",
     }
 }
 
-// The pieces of the new message that do not depend on the token and the value. An empty line stands above the new one unless
-// the body has a block.
-fn pieces_of(message: &[u8]) -> Pieces
-    ensures { result ≡ pieces_of message.now }
+// The end of a new line: CR LF below a line that ended so, and LF below every other.
+fn new_end<'a>(ending: Ending) -> &'a [u8]
+    ensures { result.now ≡ new_end ending }
 {
-    let kept = kept_len(message);
-    let ends = ends_of(last_ending(&message[..kept]));
-    let lacking = ends.lacking;
-    let end = ends.end;
-    let empty = if has_block(message) { 0 } else { end };
-    Pieces {
-        kept,
-        lacking,
-        empty,
-        end,
+    match ending {
+        Ending::CrLf => b"\r\n",
+        Ending::Lf | Ending::Cr | Ending::None => b"\n",
     }
 }
 
-// Writes the last `len` bytes of CR LF.
-fn put_end(len: usize, out: &mut [u8], at: usize)
-    requires { (len ≤ 2) × (at + len ≤ length out.old) }
-    ensures { out.new ≡ onto at (end_bytes len) out.old }
+// The empty line that stands above the new one unless the body has a block.
+fn empty_line<'a>(block: bool, ending: Ending) -> &'a [u8]
+    ensures { result.now ≡ empty_line block ending }
 {
-    copy_at(&LINE_END[2 - len..], out, at);
+    if block { b"" } else { new_end(ending) }
 }
 
-// Writes what stands above the new line: what is kept, the LF that its last line lacks, the empty line.
-fn put_above(message: &[u8], pieces: Pieces, out: &mut [u8])
-    requires { (pieces ≡ pieces_of message.now) × (length (above message.now) ≤ length out.old) }
-    ensures { out.new ≡ onto 0 (above message.now) out.old }
+// How long the pieces are together.
+fn total_len(pieces: &[&[u8]]) -> usize
+    requires { sum_by (λ piece. length piece.now) pieces.now < 2 ^ 64 }
+    ensures { result ≡ sum_by (λ piece. length piece.now) pieces.now }
 {
-    let kept = pieces.kept;
-    let lacking = pieces.lacking;
-    copy_at(&message[..kept], out, 0);
-    put_end(lacking, out, kept);
-    put_end(pieces.empty, out, kept + lacking);
+    pieces.iter().map(|piece| piece.len()).sum()
 }
 
-// Writes the new line: token, colon, space, value, and its end.
-fn put_line(token: &[u8], value: &[u8], end: usize, out: &mut [u8], at: usize)
-    requires { (end ≤ 2) × (at + length (new_line token.now value.now (end_bytes end)) ≤ length out.old) }
-    ensures { out.new ≡ onto at (new_line token.now value.now (end_bytes end)) out.old }
+// Writes the pieces to the front of `out`, one after another.
+fn put_pieces(pieces: &[&[u8]], out: &mut [u8])
+    requires { length (join (map (λ piece. piece.now) pieces.now)) ≤ length out.old }
+    ensures { out.new ≡ onto 0 (join (map (λ piece. piece.now) pieces.now)) out.old }
 {
-    let colon = at + token.len();
-    copy_at(token, out, at);
-    copy_at(b": ", out, colon);
-    copy_at(value, out, colon + 2);
-    put_end(end, out, colon + 2 + value.len());
+    let mut at = 0;
+    for piece in pieces {
+        copy_at(piece, out, at);
+        at += piece.len();
+    }
 }
 
-// Writes the message with one trailer more to the front of `out`.
-pub fn add_trailer(message: &[u8], token: &[u8], value: &[u8], out: &mut [u8]) -> TrailerAdded
+// Writes the new message piece by piece, where there is room for it; the first `len` bytes of the message are kept.
+fn put_new<'a>(
+    message: &'a [u8],
+    len: usize,
+    token: &'a [u8],
+    value: &'a [u8],
+    out: &mut [u8],
+) -> Result<usize, AddingError>
+    requires len { len ≡ length (kept message.now) }
+    requires short { (length message.now ≤ limit) × (length token.now ≤ limit) × (length value.now ≤ limit) }
+    ensures result_value { added_says result ≡ new_answer (added message.now token.now value.now) (length out.old) }
+    ensures out_after { out.new ≡ new_buffer (added message.now token.now value.now) out.old }
+{
+    let kept = &message[..len];
+    let ending = last_ending(kept);
+    let end = new_end(ending);
+    let empty = empty_line(has_block(message), ending);
+    let pieces = [kept, lacking(ending), empty, token, b": ", value, end];
+    let needed = total_len(&pieces);
+    if needed > LIMIT {
+        return Err(AddingError::TooLong);
+    }
+    if out.len() < needed {
+        return Err(AddingError::NoRoom(needed));
+    }
+    put_pieces(&pieces, out);
+    Ok(needed)
+}
+
+// Writes the message with one trailer more to the front of `out`, and answers its length.
+pub fn add_trailer(
+    message: &[u8],
+    token: &[u8],
+    value: &[u8],
+    out: &mut [u8],
+) -> Result<usize, AddingError>
     ensures result_value { added_says result ≡ add_answer message.now token.now value.now (length out.old) }
     ensures out_after { out.new ≡ add_buffer message.now token.now value.now out.old }
 {
-    if message.len() > LIMIT {
-        return TrailerAdded::TooLong;
-    }
-    if token.len() > LIMIT {
-        return TrailerAdded::TooLong;
-    }
-    if value.len() > LIMIT {
-        return TrailerAdded::TooLong;
-    }
+    within_limit(message)?;
+    within_limit(token)?;
+    within_limit(value)?;
     if !is_token(token) {
-        return TrailerAdded::BadToken;
+        return Err(AddingError::BadToken);
     }
     if !is_value(value) {
-        return TrailerAdded::BadValue;
+        return Err(AddingError::BadValue);
     }
-    let pieces = pieces_of(message);
-    if pieces.kept == 0 {
-        return TrailerAdded::NothingToStandOn;
-    }
-    let above = pieces.kept + pieces.lacking + pieces.empty;
-    let end = pieces.end;
-    let needed = above + token.len() + 2 + value.len() + end;
-    if needed > LIMIT {
-        return TrailerAdded::TooLong;
-    }
-    if out.len() < needed {
-        return TrailerAdded::NoRoom(needed);
-    }
-    put_above(message, pieces, out);
-    put_line(token, value, end, out, above);
-    TrailerAdded::Length(needed)
+    let len = kept_len(message).ok_or(AddingError::NothingToStandOn)?;
+    put_new(message, len, token, value, out)
 }

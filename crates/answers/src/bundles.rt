@@ -1,88 +1,68 @@
 // Of the calls on bundles: document 02, K11.
-ghost use Rattle.std.specs.Prelude.{◌≡◌, ◌≤◌, length};
-ghost use Rattle.bundle.specs.Answers.{counted_says, message_says};
-ghost use Rattle.bundling.specs.Answers.{written_says};
-ghost use Rattle.counting.specs.Answers.{report_says};
-ghost use Rattle.numbers.specs.Numbers.{code_of, result_length, result_of};
+ghost use Rattle.bundle.specs.Answers.{bundle_refused, message_values};
+ghost use Rattle.bundling.specs.Answers.{bundling_refused};
+ghost use Rattle.counting.specs.Answers.{report_values};
+ghost use Rattle.rules.specs.Answers.{says};
 
-use bundle::{BundleCounted, MessageFound};
-use bundling::BundleWritten;
-use counting::BundleReported;
+use crate::Answer;
+use bundle::BundleError;
+use bundling::BundlingError;
+use counting::Report;
 use numbers::put;
+use rules::Part;
 
-// Of an answer of `write_bundle`.
-pub fn put_written(answer: BundleWritten, res: &mut [usize]) -> u32
-    requires { result_length ≤ length res.old }
-    ensures value { result ≡ code_of (written_says answer) res.old }
-    ensures res_after { res.new ≡ result_of (written_says answer) res.old }
-{
-    match answer {
-        BundleWritten::Length(len) => put(0, &[len], res),
-        BundleWritten::TooLong => put(1, &[], res),
-        BundleWritten::BadPlace => put(2, &[], res),
-        BundleWritten::NotABundle => put(12, &[], res),
-        BundleWritten::NoRoom(needed) => put(3, &[needed], res),
+// Of `bundle_message`: no values past the last message.
+impl Answer for Option<Part> {
+    ghost said = { λ message. says 0 (message_values message) };
+
+    fn put(self, res: &mut [usize]) -> u32 {
+        match self {
+            Some(message) => message.put(res),
+            None => put(0, &[], res),
+        }
     }
 }
 
-// Of an answer of `bundle_count`.
-pub fn put_counted(answer: BundleCounted, res: &mut [usize]) -> u32
-    requires { result_length ≤ length res.old }
-    ensures value { result ≡ code_of (counted_says answer) res.old }
-    ensures res_after { res.new ≡ result_of (counted_says answer) res.old }
-{
-    match answer {
-        BundleCounted::Messages(count) => put(0, &[count], res),
-        BundleCounted::TooLong => put(1, &[], res),
-        BundleCounted::NotABundle => put(12, &[], res),
+// Of the calls that read a bundle.
+impl Answer for BundleError {
+    ghost said = { bundle_refused };
+
+    fn put(self, res: &mut [usize]) -> u32 {
+        match self {
+            BundleError::TooLong => put(1, &[], res),
+            BundleError::NotABundle => put(12, &[], res),
+        }
     }
 }
 
-// Of an answer of `bundle_message`.
-pub fn put_message(answer: MessageFound, res: &mut [usize]) -> u32
-    requires { result_length ≤ length res.old }
-    ensures value { result ≡ code_of (message_says answer) res.old }
-    ensures res_after { res.new ≡ result_of (message_says answer) res.old }
-{
-    match answer {
-        MessageFound::At(part) => put(0, &[part.start, part.end], res),
-        MessageFound::NoSuchMessage => put(0, &[], res),
-        MessageFound::TooLong => put(1, &[], res),
-        MessageFound::NotABundle => put(12, &[], res),
+// Of the call that writes one.
+impl Answer for BundlingError {
+    ghost said = { bundling_refused };
+
+    fn put(self, res: &mut [usize]) -> u32 {
+        match self {
+            BundlingError::TooLong => put(1, &[], res),
+            BundlingError::BadPlace => put(2, &[], res),
+            BundlingError::NotABundle => put(12, &[], res),
+            BundlingError::NoRoom(needed) => put(3, &[needed], res),
+        }
     }
 }
 
-// Of an answer of `bundle_report`.
-pub fn put_report(answer: BundleReported, res: &mut [usize]) -> u32
-    requires { result_length ≤ length res.old }
-    ensures value { result ≡ code_of (report_says answer) res.old }
-    ensures res_after { res.new ≡ result_of (report_says answer) res.old }
-{
-    match answer {
-        BundleReported::Report {
-            signed_off_by,
-            co_authored_by,
-            assisted_by,
-            acked_by,
-            reviewed_by,
-            tested_by,
-            rest,
-            without,
-        } => put(
-            0,
-            &[
-                signed_off_by,
-                co_authored_by,
-                assisted_by,
-                acked_by,
-                reviewed_by,
-                tested_by,
-                rest,
-                without,
-            ],
-            res,
-        ),
-        BundleReported::TooLong => put(1, &[], res),
-        BundleReported::NotABundle => put(12, &[], res),
+impl Answer for Report {
+    ghost said = { λ report. says 0 (report_values report) };
+
+    fn put(self, res: &mut [usize]) -> u32 {
+        let values = [
+            self.signed_off_by,
+            self.co_authored_by,
+            self.assisted_by,
+            self.acked_by,
+            self.reviewed_by,
+            self.tested_by,
+            self.rest,
+            self.without,
+        ];
+        put(0, &values, res)
     }
 }

@@ -1,25 +1,33 @@
 // Of the mailbox call: document 02, K14.
-ghost use Rattle.std.specs.Prelude.{◌≡◌, ◌≤◌, length};
-ghost use Rattle.mailbox.specs.Answers.{mailbox_says};
-ghost use Rattle.numbers.specs.Numbers.{code_of, result_length, result_of};
+ghost use Rattle.mailbox.specs.Answers.{mailbox_error_says, mailbox_values};
+ghost use Rattle.rules.specs.Answers.{says};
 
-use mailbox::MailboxFound;
+use crate::Answer;
+use mailbox::{Mailbox, MailboxError};
 use numbers::put;
 
-// Of an answer of `mailbox`.
-pub fn put_mailbox(answer: MailboxFound, res: &mut [usize]) -> u32
-    requires { result_length ≤ length res.old }
-    ensures value { result ≡ code_of (mailbox_says answer) res.old }
-    ensures res_after { res.new ≡ result_of (mailbox_says answer) res.old }
-{
-    match answer {
-        MailboxFound::Mailbox { name, address } => put(
-            0,
-            &[name.start, name.end, address.start, address.end],
-            res,
-        ),
-        MailboxFound::TooLong => put(1, &[], res),
-        MailboxFound::NotAMailbox { at } => put(14, &[at], res),
-        MailboxFound::NinthComment { at } => put(15, &[at], res),
+impl Answer for Mailbox {
+    ghost said = { λ m. says 0 (mailbox_values m) };
+
+    fn put(self, res: &mut [usize]) -> u32 {
+        let values = [
+            self.name.start,
+            self.name.end,
+            self.address.start,
+            self.address.end,
+        ];
+        put(0, &values, res)
+    }
+}
+
+impl Answer for MailboxError {
+    ghost said = { mailbox_error_says };
+
+    fn put(self, res: &mut [usize]) -> u32 {
+        match self {
+            MailboxError::TooLong => put(1, &[], res),
+            MailboxError::NotAMailbox { at } => put(14, &[at], res),
+            MailboxError::NinthComment { at } => put(15, &[at], res),
+        }
     }
 }

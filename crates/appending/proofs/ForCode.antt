@@ -1,9 +1,8 @@
 -- What the code asks instead: the block start for `has_block` (has_block), and for `kept` a scan of lines from the end
 -- (kept-blank, kept-solid), after which the last ending is that of the kept bytes (kept_ending). Assumes nothing.
-use Rattle.std.specs.Prelude.{if◌then◌else◌}
+use Rattle.std.specs.Prelude.{Option, if◌then◌else◌}
 use mathlib.Core.Bool.{Bool, true, false, not, ◌||◌, or_assoc, or-false, or-true}
 use mathlib.Core.List.{List, [], ◌∷◌, ◌++◌, append_assoc, append-nil}
-use mathlib.Core.Option.{Option}
 use mathlib.Core.Path.{◌≡◌, sym, ap, ◌∙◌}
 use Prim.Native.Nat.{ℕ, ◌+◌, ◌≤◌, ◌<◌}
 use native.Mathlib.Omega.{arith}
@@ -125,7 +124,7 @@ module _ (message : List ℕ) where
     where
       by : {o : Option Ending} → LastEnding (lines message) o → eqb (length (kept message)) 0 ≡ not (any solid (lines message))
       by (last us l bs read s b) =
-          let some : T (filled l) = (all_right filled us (l ∷ bs) (rw read at (filled-lines message))).0 in
-          let size : 0 < length (kept message) = rw (kept_is message us l bs read s b) (omega (arith, length-append (join us) l, filled_some l some)) in
+          let Some : T (filled l) = (all_right filled us (l ∷ bs) (rw read at (filled-lines message))).0 in
+          let size : 0 < length (kept message) = rw (kept_is message us l bs read s b) (omega (arith, length-append (join us) l, filled_some l Some)) in
           ne_eqb (length (kept message)) 0 (λ z. omega arith) ∙ rw (read, is_true (any solid (us ++ l ∷ bs)) (some_solid us l bs s))
       by (nowhere b) = rw (nothing_kept b, none_solid (lines message) b)

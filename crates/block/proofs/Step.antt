@@ -1,6 +1,6 @@
 -- The block step: the lines of a message are passed one by one (message_line), the trailers of a part one by one (part_trailer),
 -- and so the first block of the rest of a body is found (next_block_is). Assumes nothing.
-use Rattle.std.specs.Prelude.{if◌then◌else◌}
+use Rattle.std.specs.Prelude.{Option, None, Some, is_some, if◌then◌else◌}
 use mathlib.Core.Bool.{Bool, true, false}
 use mathlib.Core.List.{List, [], ◌∷◌, ◌++◌, append-nil}
 use mathlib.Core.Path.{◌≡◌, refl, sym, ap, ◌∙◌}
@@ -19,12 +19,12 @@ use Rattle.rules.proofs.Lists.{join-append, past_stops, run_past, run_shorter}
 use Rattle.rules.proofs.Trailer.{plain}
 use Rattle.text.specs.Lines.{first_length}
 use Rattle.rules.proofs.Parts.{rest}
-use Rattle.trailer.specs.Line.{at_start}
+use Rattle.trailer.specs.Line.{at_start, parsed, trailer_at_start_of}
 use Rattle.trailer.specs.declared.line.TrailerAtStart.{TrailerAtStart}
-use Rattle.trailer.proofs.AtStart.{start_within}
+use Rattle.trailer.proofs.AtStart.{at_start_told, start_within}
 use Rattle.text.proofs.ByLines.{line_then, line_length}
-use Rattle.block.specs.declared.NextBlock.{NextBlock}
 use Rattle.block.specs.Step.{message_lines, message_length, part_lines, part_length, next_block}
+use Rattle.rules.specs.Record.{block_places}
 
 -- `&s[at..]`
 abbrev pub onward : List ℕ → ℕ → List ℕ
@@ -32,19 +32,20 @@ onward s at = take (length s - at) (drop at s)
 
 -- ---- what an answer of `trailer_at_start` tells of the lines from there on
 
-abbrev is_trailer : TrailerAtStart → Bool
-is_trailer (TrailerAtStart.Trailer token value first len) = true
-is_trailer TrailerAtStart.NoTrailer = false
+-- the length of a trailer that was found
+abbrev len_of : Option TrailerAtStart → ℕ
+len_of (Some t) = t.len
+len_of None = 0
 
-first_told : (ls : List Line) (r : TrailerAtStart) → at_start ls ≡ r → first trailer_line ls ≡ is_trailer r
+first_told : (ls : List Line) (r : Option TrailerAtStart) → at_start ls ≡ r → first trailer_line ls ≡ is_some r
 unfolding at_start
-first_told [] r e = ap is_trailer e
-first_told (l ∷ ls) r e = by (trailer_line l) ∙ ap is_trailer e
+first_told [] r e = ap is_some e
+first_told (l ∷ ls) r e = by (trailer_line l) ∙ ap is_some e
   where
     by : (b : Bool)
-        → b ≡ is_trailer (if b
-        then TrailerAtStart.Trailer (length (token_in l)) (length (token_in l) + length (gap_in l) + 1) (length l) (length l + length (join (run folds ls)))
-        else TrailerAtStart.NoTrailer)
+        → b ≡ is_some (if b
+        then Some (trailer_at_start_of (length (token_in l)) (length (token_in l) + length (gap_in l) + 1) (length l) (length l + length (join (run folds ls))))
+        else None)
     by true = refl
     by false = refl
 
@@ -59,16 +60,19 @@ line_passes : (l : Line) (ls : List Line) → trailer_line l ≡ false
 line_passes l ls e = rw e (length-append l (join (message_lines ls)))
 
 module _ (s : List ℕ) (at : ℕ) where
-  pub message_ends : {token value first len : ℕ} → at_start (lines (onward s at)) ≡ TrailerAtStart.Trailer token value first len
-      → message_length (drop at s) ≡ 0
-  message_ends q = rw (trailer_stops (lines (drop at s)) (first_told (lines (drop at s)) _ (rw rest at q)))
+  -- what `parse_trailer_line` answers tells whether a trailer begins there
+  line_told : {b : Bool} → is_some (parsed (onward s at)) ≡ b → first trailer_line (lines (drop at s)) ≡ b
+  line_told q = first_told (lines (drop at s)) _ refl ∙ at_start_told (drop at s) ∙ rw rest at q
 
-  pub message_line : (n : ℕ) → at < length s → at_start (lines (onward s at)) ≡ TrailerAtStart.NoTrailer
+  pub message_ends : is_some (parsed (onward s at)) ≡ true → message_length (drop at s) ≡ 0
+  message_ends q = rw (trailer_stops (lines (drop at s)) (line_told q))
+
+  pub message_line : (n : ℕ) → at < length s → is_some (parsed (onward s at)) ≡ false
       → n ≡ first_length (lines (onward s at))
       → message_length (drop at s) ≡ n + message_length (drop (at + n) s)
   message_line n h q e =
       let cut : lines (drop at s) ≡ take (at + n - at) (drop at s) ∷ lines (drop (at + n) s) = line_then s at n h e in
-      let none : trailer_line (take (at + n - at) (drop at s)) ≡ false = rw cut at (first_told (lines (drop at s)) _ (rw rest at q)) in
+      let none : trailer_line (take (at + n - at) (drop at s)) ≡ false = rw cut at (line_told q) in
       rw cut (line_passes (take (at + n - at) (drop at s)) (lines (drop (at + n) s)) none ∙ rw (line_length s at n h e))
 
 -- ---- the trailers of a part, until none begins
@@ -103,28 +107,28 @@ trailer_passes s len l ls e t n =
     rw (behind, e, t, run_part ls) (simp (join-append, length-append) (omega arith))
 
 module _ (s : List ℕ) (at : ℕ) where
-  pub part_ends : at_start (lines (onward s at)) ≡ TrailerAtStart.NoTrailer → part_length (drop at s) ≡ 0
+  pub part_ends : at_start (lines (onward s at)) ≡ None → part_length (drop at s) ≡ 0
   part_ends q = rw (none_stops (lines (drop at s)) (first_told (lines (drop at s)) _ (rw rest at q)))
 
-  pub trailer_within : {token value first len : ℕ} → at ≤ length s
-      → at_start (lines (onward s at)) ≡ TrailerAtStart.Trailer token value first len → (0 < len) × (at + len ≤ length s)
+  pub trailer_within : {t : TrailerAtStart} → at ≤ length s
+      → at_start (lines (onward s at)) ≡ Some t → (0 < t.len) × (at + t.len ≤ length s)
   trailer_within h q =
       let (x, y, w, z) = rw q at (start_within (onward s at)) in
       (omega (arith, y, w), omega (arith, z, length-take-le (length s - at) (drop at s) (omega (arith, length-drop at s))))
 
-  pub part_trailer : {token value first len : ℕ} → at_start (lines (onward s at)) ≡ TrailerAtStart.Trailer token value first len
-      → part_length (drop at s) ≡ len + part_length (drop (at + len) s)
+  pub part_trailer : {t : TrailerAtStart} → at_start (lines (onward s at)) ≡ Some t
+      → part_length (drop at s) ≡ t.len + part_length (drop (at + t.len) s)
   unfolding at_start
-  part_trailer {token} {value} {first} {len} q = of (lines (drop at s)) refl (rw rest at q)
+  part_trailer {t} q = of (lines (drop at s)) refl (rw rest at q)
     where
-      of : (ls : List Line) → lines (drop at s) ≡ ls → at_start ls ≡ TrailerAtStart.Trailer token value first len
-          → part_length (drop at s) ≡ len + part_length (drop (at + len) s)
+      of : (ls : List Line) → lines (drop at s) ≡ ls → at_start ls ≡ Some t
+          → part_length (drop at s) ≡ t.len + part_length (drop (at + t.len) s)
       of [] e f = cc
       of (l ∷ ls) e f =
-          let t : trailer_line l ≡ true = first_told (l ∷ ls) _ f in
-          let whole = rw t at f in
-          let n : len ≡ length l + length (join (run folds ls)) = cc in
-          simp drop-drop at (trailer_passes (drop at s) len l ls e t n)
+          let q : trailer_line l ≡ true = first_told (l ∷ ls) _ f in
+          let whole = rw q at f in
+          let n : t.len ≡ length l + length (join (run folds ls)) = ap (λ o. len_of o) (sym whole) in
+          simp drop-drop at (trailer_passes (drop at s) t.len l ls e q n)
 
 -- ---- the first block
 
@@ -159,11 +163,11 @@ first_block body start f = by (drop start body) refl
         (blocks (join (past in_part (past plain ls))) 0, rw (← part) (blocks-forward body start (rw e tt)))
 
 -- at the body's end there is none
-pub no_block : (body : List ℕ) (at start : ℕ) → at ≡ length body → next_block at (blocks_from body at start) ≡ NextBlock.End
+pub no_block : (body : List ℕ) (at start : ℕ) → at ≡ length body → next_block at (blocks_from body at start) ≡ None
 no_block body at start e =
     rw (e, drop-length, blocks_end [] (start - length body) (drop-nil (start - length body)), take-nil)
 
-same_ends : {a b c d : ℕ} → a ≡ c → b ≡ d → NextBlock.Block a b ≡ NextBlock.Block c d
+same_ends : {a b c d : ℕ} → a ≡ c → b ≡ d → Some (block_places a b) ≡ Some (block_places c d)
 same_ends e f = cc
 
 drop-filled : (s : List ℕ) (at : ℕ) → at < length s → T (filled (drop at s))
@@ -190,7 +194,7 @@ module _ (body : List ℕ) (from m : ℕ) (l : from ≤ length body)
         omega (arith, message_within, rw rest at q, part_within (lines rest_of), ap length (join-lines rest_of), length-drop (from + m) body)
 
     pub next_block_is : (at start : ℕ) → at < length body → start ≤ length body → from ≡ at + (start - at)
-        → next_block at (blocks_from body at start) ≡ NextBlock.Block (from + m) (from + m + p)
+        → next_block at (blocks_from body at start) ≡ Some (block_places (from + m) (from + m + p))
     next_block_is at start h k f =
         let ls : List Line = lines (drop from body) in
         let (bs, first) = first_block (drop at body) (start - at) (drop-filled body at h) in

@@ -1,10 +1,11 @@
 -- What the block step answers, and the lines that it goes by.
-use Rattle.std.specs.Prelude.{not, ◌||◌, List, [], ◌∷◌, ℕ, ◌+◌, length, if◌then◌else◌}
+use Rattle.std.specs.Prelude.{not, ◌||◌, List, [], ◌∷◌, ℕ, ◌+◌, length, Option, None, Some, if◌then◌else◌}
 use Rattle.rules.specs.Division.{Block, block}
 use Rattle.rules.specs.Lines.{Line, lines, folds}
 use Rattle.rules.specs.Lists.{join, run}
+use Rattle.rules.specs.Record.{block_places}
 use Rattle.rules.specs.Trailer.{trailer_line}
-use Rattle.block.specs.declared.NextBlock.{NextBlock}
+use Rattle.rules.specs.declared.BlockPlaces.{BlockPlaces}
 
 -- the lines at the front up to the first trailer line
 abbrev pub message_lines : List Line → List Line
@@ -23,6 +24,6 @@ abbrev pub part_length : List ℕ → ℕ
 part_length s = length (join (part_lines (lines s)))
 
 -- the first of the blocks from `at` on: where its message ends, and where its trailer part does
-abbrev pub next_block : ℕ → List Block → NextBlock
-next_block at [] = NextBlock.End
-next_block at (block m t ∷ bs) = NextBlock.Block (at + length m) (at + length m + length t)
+abbrev pub next_block : ℕ → List Block → Option BlockPlaces
+next_block at [] = None
+next_block at (block m t ∷ bs) = Some (block_places (at + length m) (at + length m + length t))

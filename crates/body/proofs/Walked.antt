@@ -1,4 +1,6 @@
 -- K8: from a right cursor every number of a walk by steps is right, every next cursor too, and the numbers rise strictly. Assumes nothing.
+use Rattle.std.specs.Prelude.{Option, None, Some, is_some}
+use mathlib.Core.Bool.{false≢true}
 use mathlib.Core.List.{List, [], ◌∷◌, map}
 use mathlib.Core.Path.{◌≡◌, refl, sym, ap, ◌∙◌}
 use Prim.Native.Nat.{ℕ}
@@ -7,7 +9,7 @@ use lib.ListN.{take}
 use Rattle.rules.proofs.Number.{moved_right, numbers_rise}
 use Rattle.rules.proofs.Walk.{those_place, those-steps}
 use Rattle.rules.specs.Number.{Right, Rises, cursor_at, line_feeds, line_number, moved_on, numbers}
-use Rattle.rules.specs.Record.{record_of}
+use Rattle.rules.specs.Record.{record_of, step_with}
 use Rattle.rules.specs.Trailer.{Trailer, end_of, is_of, only, place_of, walk_from}
 use Rattle.rules.specs.declared.Cursor.{Cursor}
 use Rattle.rules.specs.declared.Kind.{Kind}
@@ -25,14 +27,18 @@ record Told (kind : Kind) (body : List ℕ) (t : TrailerRef) (next : Cursor) (us
   right : Right body next
   left : only kind (walk_from body next.at) ≡ others
 
+abbrev found_or : TrailerRef → Option TrailerRef → TrailerRef
+found_or t None = t
+found_or t (Some u) = u
+
 told : (kind : Kind) (body : List ℕ) (c : Cursor) → Right body c → (us : List Trailer) → only kind (walk_from body c.at) ≡ us
-    → {t : TrailerRef} {next : Cursor} → first_step body c us ≡ TrailerStep.Trailer t next → Told kind body t next us
-told kind body c right [] e q = let z : ◌≡◌ {A = ℕ} 0 1 = cc in absurd (omega arith)
+    → {t : TrailerRef} {next : Cursor} → first_step body c us ≡ step_with (Some t) next → Told kind body t next us
+told kind body c right [] e q = absurd (false≢true (ap (λ (s : TrailerStep). is_some s.found) q))
 told kind body c right (u ∷ us) e {t} {next} q =
     let place = those_place body (is_of kind) c.at (walk_from body c.at) u us refl e in
     let steps = those-steps body (is_of kind) c.at (walk_from body c.at) u us refl e in
-    let record_is : record_of (moved_on body c (place_of u)).line u ≡ t = cc in
-    let moved : moved_on body c (end_of u) ≡ next = cc in
+    let record_is : record_of (moved_on body c (place_of u)).line u ≡ t = ap (λ (s : TrailerStep). found_or t s.found) q in
+    let moved : moved_on body c (end_of u) ≡ next = ap (λ (s : TrailerStep). s.next) q in
     let behind : next ≡ cursor_at body (end_of u) = sym moved ∙ moved_right body c (end_of u) right (omega (arith, steps.1)) in
     record {
       first = u;
@@ -43,9 +49,9 @@ told kind body c right (u ∷ us) e {t} {next} q =
       left = rw behind steps.0;
     }
 
-none : (body : List ℕ) (c next : Cursor) (us : List Trailer) → first_step body c us ≡ TrailerStep.End next → us ≡ []
+none : (body : List ℕ) (c next : Cursor) (us : List Trailer) → first_step body c us ≡ step_with None next → us ≡ []
 none body c next [] q = refl
-none body c next (u ∷ us) q = let z : ◌≡◌ {A = ℕ} 0 1 = cc in absurd (omega arith)
+none body c next (u ∷ us) q = absurd (false≢true (sym (ap (λ (s : TrailerStep). is_some s.found) q)))
 
 pub numbers_right : (kind : Kind) (body : List ℕ) (c : Cursor) (ts : List TrailerRef) → Right body c → Walked kind body c ts
     → map line_of ts ≡ numbers body (only kind (walk_from body c.at))
@@ -62,5 +68,5 @@ lines_rise kind body c ts right w = rw (numbers_right kind body c ts right w) (n
 
 -- the cursor that a step from a right one gives is right
 pub next_right : (kind : Kind) (body : List ℕ) (c : Cursor) → Right body c → {t : TrailerRef} {next : Cursor}
-    → first_step body c (only kind (walk_from body c.at)) ≡ TrailerStep.Trailer t next → Right body next
+    → first_step body c (only kind (walk_from body c.at)) ≡ step_with (Some t) next → Right body next
 next_right kind body c right q = (told kind body c right (only kind (walk_from body c.at)) refl q).right

@@ -1,9 +1,8 @@
 -- Reading what was written gives the messages; what is read as a bundle of messages is their bundle, so of these alone.
 -- Assumes nothing.
-use Rattle.std.specs.Prelude.{if◌then◌else◌}
+use Rattle.std.specs.Prelude.{None, Some, if◌then◌else◌}
 use mathlib.Core.Bool.{Bool, true, false, ◌&&◌}
 use mathlib.Core.List.{List, [], ◌∷◌, ◌++◌, map, append_assoc}
-use mathlib.Core.Option.{none, some}
 use mathlib.Core.Path.{◌≡◌, refl, sym, ap, ◌∙◌}
 use Prim.Native.Nat.{ℕ, zero, suc, ◌+◌, ◌-◌, ◌*◌, ◌≤◌, ◌<◌}
 use native.Mathlib.Nat.{add-suc, add-zero, suc-add, zero-add}
@@ -99,7 +98,7 @@ unfolding is_bundle
 judged_true b n x os c f o l m h e r t =
     rw (c, f, o, r, le-ltb (length b) 8 l, le-ltb most n m, le-ltb (length b) (header_length n) h, eq-eqb x (header_length n) e, eq-eqb (last_of x os) (length b) t)
 
-pub read_written : (b : List ℕ) (ms : List (List ℕ)) → IsBundle b ms → read_bundle b ≡ some ms
+pub read_written : (b : List ℕ) (ms : List (List ℕ)) → IsBundle b ms → read_bundle b ≡ Some ms
 unfolding bundle_of messages_in
 read_written b ms is =
     let n = length ms in
@@ -119,7 +118,7 @@ read_written b ms is =
     rw (good, read)
 
 -- "Write and read it": what was written is read as the messages
-pub read_back : (ms : List (List ℕ)) → length ms ≤ most → length (bundle_of ms) < u32_top → read_bundle (bundle_of ms) ≡ some ms
+pub read_back : (ms : List (List ℕ)) → length ms ≤ most → length (bundle_of ms) < u32_top → read_bundle (bundle_of ms) ≡ Some ms
 read_back ms m f = read_written (bundle_of ms) ms (bundle_is ms m f)
 
 -- ---- what is read was written
@@ -227,10 +226,10 @@ written_read b a e =
     }
 
 -- what is read as the bundle of some messages is the bundle of just these
-pub read_is : (b : List ℕ) (ms : List (List ℕ)) → All byte b → read_bundle b ≡ some ms → IsBundle b ms
+pub read_is : (b : List ℕ) (ms : List (List ℕ)) → All byte b → read_bundle b ≡ Some ms → IsBundle b ms
 read_is b ms a e = go (is_bundle b) refl e
   where
-    go : (t : Bool) → is_bundle b ≡ t → (if t then some (messages_in b) else none) ≡ some ms → IsBundle b ms
+    go : (t : Bool) → is_bundle b ≡ t → (if t then Some (messages_in b) else None) ≡ Some ms → IsBundle b ms
     go true j e =
         let same : messages_in b ≡ ms = cc in
         rw (← same) (written_read b a j)
@@ -239,17 +238,17 @@ read_is b ms a e = go (is_bundle b) refl e
 -- bytes are the bundle of one list of messages at most
 pub one_list : (b : List ℕ) (ms ns : List (List ℕ)) → IsBundle b ms → IsBundle b ns → ms ≡ ns
 one_list b ms ns p q =
-    let e : some ms ≡ some ns = sym (read_written b ms p) ∙ read_written b ns q in
+    let e : Some ms ≡ Some ns = sym (read_written b ms p) ∙ read_written b ns q in
     cc
 
 -- what was read, written again, is the same bytes
-pub written_again : (b : List ℕ) (ms : List (List ℕ)) → All byte b → read_bundle b ≡ some ms → bundle_of ms ≡ b
+pub written_again : (b : List ℕ) (ms : List (List ℕ)) → All byte b → read_bundle b ≡ Some ms → bundle_of ms ≡ b
 written_again b ms a e = sym (read_is b ms a e).written
 
 -- what is not read as a bundle is the bundle of no list of messages
-pub no_bundle : (b : List ℕ) → read_bundle b ≡ none → (ms : List (List ℕ)) → IsBundle b ms → ⊥
+pub no_bundle : (b : List ℕ) → read_bundle b ≡ None → (ms : List (List ℕ)) → IsBundle b ms → ⊥
 no_bundle b e ms is =
-    let f : none ≡ some ms = sym e ∙ read_written b ms is in
+    let f : None ≡ Some ms = sym e ∙ read_written b ms is in
     absurd (let z : ◌≡◌ {A = ℕ} 0 1 = cc in omega arith)
 
 -- ---- one message

@@ -1,43 +1,23 @@
--- The test of a bundle, one by one: what each early answer rests on, and the offsets one after another. Assumes nothing.
-use mathlib.Core.Bool.{true, false}
+-- The test of a bundle: its last row, the offsets one after another, and where the messages stand. Assumes nothing.
+use mathlib.Core.Bool.{true}
 use mathlib.Core.List.{List, [], ◌∷◌}
 use mathlib.Core.Path.{◌≡◌, ap, ◌∙◌}
 use Prim.Native.Nat.{ℕ, zero, suc, ◌+◌, ◌-◌, ◌*◌, ◌≤◌, ◌<◌}
 use native.Mathlib.Nat.{add-zero, sub-zero, zero-add}
 use native.Mathlib.Omega.{arith}
-use borrow.Author.Tests.{eq-eqb, ne_eqb, le-leb, lt-leb, lt-ltb, le-ltb}
-use lib.Dec.{T, eqb, leb, leb→le}
+use borrow.Author.Tests.{eq-eqb, le-leb, le-ltb}
+use lib.Dec.{T, leb, leb→le}
 use lib.ListN.{length}
 use Rattle.rules.proofs.Lists.{and_left, and_right}
 use Rattle.bundle.proofs.Bundle.{Passed, last_le, passed}
 use Rattle.bundle.specs.Bundle.{count_of, header_length, is_bundle, last_of, most, none_falls, offset, offsets, rises_to, u32_at}
 
-module _ (b : List ℕ) where
-  pub too_short : length b < 8 → is_bundle b ≡ false
-  unfolding is_bundle
-  too_short h = rw (lt-ltb (length b) 8 h)
-
-  pub too_many : {n : ℕ} → n ≡ count_of b → 8 ≤ length b → most < n → is_bundle b ≡ false
-  unfolding is_bundle
-  too_many {n} e h m = rw (← e, le-ltb (length b) 8 h, lt-ltb most n m)
-
-  pub cut_short : {n : ℕ} → n ≡ count_of b → 8 ≤ length b → n ≤ most → length b < header_length n → is_bundle b ≡ false
-  unfolding is_bundle
-  cut_short {n} e h m l = rw (← e, le-ltb (length b) 8 h, le-ltb most n m, lt-ltb (length b) (header_length n) l)
-
-  module _ {n x : ℕ} (e : n ≡ count_of b) (o : x ≡ offset b 0) (h : 8 ≤ length b) (m : n ≤ most) (l : header_length n ≤ length b) where
-    pub wrong_first : (x ≡ header_length n → ⊥) → is_bundle b ≡ false
-    unfolding is_bundle
-    wrong_first f = rw (← e, ← o, le-ltb (length b) 8 h, le-ltb most n m, le-ltb (length b) (header_length n) l, ne_eqb x (header_length n) f)
-
-    pub right_first : x ≡ header_length n → is_bundle b ≡ rises_to (length b) x (offsets b 1 (n - 0))
-    unfolding is_bundle
-    right_first f = rw (sub-zero n, ← e, ← o, le-ltb (length b) 8 h, le-ltb most n m, le-ltb (length b) (header_length n) l, eq-eqb x (header_length n) f)
+pub right_first : (b : List ℕ) {n x : ℕ} → n ≡ count_of b → x ≡ offset b 0 → 8 ≤ length b → n ≤ most → header_length n ≤ length b → x ≡ header_length n → is_bundle b ≡ rises_to (length b) x (offsets b 1 (n - 0))
+unfolding is_bundle
+right_first b {n} {x} e o h m l f =
+    rw (sub-zero n, ← e, ← o, le-ltb (length b) 8 h, le-ltb most n m, le-ltb (length b) (header_length n) l, eq-eqb x (header_length n) f)
 
 -- ---- the offsets that follow
-
-pub falls : (size x y : ℕ) (os : List ℕ) → y < x → rises_to size x (y ∷ os) ≡ false
-falls size x y os h = rw (lt-leb x y h)
 
 pub goes_on : (size x y : ℕ) (os : List ℕ) → x ≤ y → rises_to size x (y ∷ os) ≡ rises_to size y os
 goes_on size x y os h = rw (le-leb x y h)
@@ -64,15 +44,6 @@ turn b n k x y h e l =
     let d : y ≡ offset b (suc k) = e ∙ offset_behind b k in
     rw (next_offset b n k h, ← d) (goes_on (length b) x y (offsets b (suc (k + 1)) (n - (k + 1))) l)
 
--- or it does
-pub turned : (b : List ℕ) (n k x y : ℕ) → k < n → y ≡ u32_at b (8 + 4 * k) → y < x → rises_to (length b) x (offsets b (suc k) (n - k)) ≡ false
-turned b n k x y h e l =
-    let d : y ≡ offset b (suc k) = e ∙ offset_behind b k in
-    rw (next_offset b n k h, ← d) (falls (length b) x y (offsets b (suc (k + 1)) (n - (k + 1))) l)
-
-pub over : (b : List ℕ) (n k x : ℕ) → n ≤ k → rises_to (length b) x (offsets b (suc k) (n - k)) ≡ eqb x (length b)
-over b n k x h = rw (no_offset b n k h)
-
 -- ---- the messages of a bundle stand in it, one behind another
 
 between : (b : List ℕ) (k j n : ℕ) → j < n → T (none_falls (offset b k) (offsets b (suc k) n)) → (offset b (k + j) ≤ offset b (suc (k + j))) × (offset b (suc (k + j)) ≤ last_of (offset b k) (offsets b (suc k) n))
@@ -89,16 +60,13 @@ between b k (suc j) (suc n) h t =
     let e : k + suc j ≡ suc k + j = omega arith in
     rw e (between b (suc k) j n (omega arith) (and_right (leb x y) (none_falls y os) t))
 
-pub message_between : (b : List ℕ) (k : ℕ) → is_bundle b ≡ true → k < count_of b → (offset b k ≤ offset b (suc k)) × (offset b (suc k) ≤ length b)
-message_between b k e h =
+-- what is known of message k, and of the places of its two offsets
+pub part_there : (b : List ℕ) (k : ℕ) → is_bundle b ≡ true → k < count_of b → (offset b k ≤ offset b (suc k)) × (offset b (suc k) ≤ length b) × (12 + 4 * k ≤ length b) × (k < most)
+part_there b k e h =
     let p : Passed b = passed b e in
     let r = between b 0 k (count_of b) h p.rise in
-    rw (zero-add k, p.last) at r
-
-pub header_between : (b : List ℕ) (k : ℕ) → is_bundle b ≡ true → k < count_of b → (12 + 4 * k ≤ length b) × (k < most)
-header_between b k e h =
-    let p : Passed b = passed b e in
-    (omega (arith, p.header_fits), omega (arith, p.few))
+    let (order, inside) = rw (zero-add k, p.last) at r in
+    (order, inside, omega (arith, p.header_fits), omega (arith, p.few))
 
 pub count_there : (b : List ℕ) → is_bundle b ≡ true → 8 ≤ length b
 count_there b e = omega (arith, (passed b e).header_fits)

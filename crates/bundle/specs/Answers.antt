@@ -1,9 +1,9 @@
 -- The answers of the calls that read a bundle: document 02, K11. "Refusals: 12, not a bundle, [..] after 1 for an input".
-use Rattle.std.specs.Prelude.{Bool, not, List, [], ◌∷◌, ℕ, suc, ltb, length, if◌then◌else◌}
-use Rattle.rules.specs.Answers.{Said, says, Row, row, judged, too_long}
+use Rattle.std.specs.Prelude.{Bool, not, List, [], ◌∷◌, ℕ, suc, ltb, length, Option, None, Some, Result, if◌then◌else◌}
+use Rattle.rules.specs.Answers.{Said, says, Row, row, judged, said_by, too_long}
+use Rattle.rules.specs.declared.Part.{Part}
 use Rattle.bundle.specs.Bundle.{is_bundle, messages_in, offset}
-use Rattle.bundle.specs.declared.BundleCounted.{BundleCounted}
-use Rattle.bundle.specs.declared.MessageFound.{MessageFound}
+use Rattle.bundle.specs.declared.BundleError.{BundleError}
 
 -- 12, "not a bundle"
 abbrev pub not_a_bundle : Bool → Row
@@ -13,23 +13,30 @@ not_a_bundle good = row (not good) (says 12 [])
 abbrev pub of_bundle : List ℕ → Said → Said
 of_bundle bundle answer = judged (too_long (bundle ∷ []) ∷ not_a_bundle (is_bundle bundle) ∷ []) answer
 
+-- of a call that reads a bundle and refuses
+abbrev pub bundle_refused : BundleError → Said
+bundle_refused BundleError.TooLong = says 1 []
+bundle_refused BundleError.NotABundle = says 12 []
+
 -- ---- `bundle_count`: the number of messages
 
-abbrev pub counted_says : BundleCounted → Said
-counted_says (BundleCounted.Messages n) = says 0 (n ∷ [])
-counted_says BundleCounted.TooLong = says 1 []
-counted_says BundleCounted.NotABundle = says 12 []
+abbrev pub count_values : ℕ → List ℕ
+count_values n = n ∷ []
+
+abbrev pub counted_says : Result ℕ BundleError → Said
+counted_says = said_by count_values bundle_refused
 
 abbrev pub count_answer : List ℕ → Said
 count_answer bundle = of_bundle bundle (says 0 (length (messages_in bundle) ∷ []))
 
 -- ---- `bundle_message`: where message k starts and ends in the bundle; no values past the last
 
-abbrev pub message_says : MessageFound → Said
-message_says (MessageFound.At p) = says 0 (p.start ∷ p.end ∷ [])
-message_says MessageFound.NoSuchMessage = says 0 []
-message_says MessageFound.TooLong = says 1 []
-message_says MessageFound.NotABundle = says 12 []
+abbrev pub message_values : Option Part → List ℕ
+message_values (Some p) = p.start ∷ p.end ∷ []
+message_values None = []
+
+abbrev pub message_says : Result (Option Part) BundleError → Said
+message_says = said_by message_values bundle_refused
 
 abbrev pub message_answer : List ℕ → ℕ → Said
 message_answer bundle k =

@@ -1,8 +1,7 @@
 -- The bundle: document 02, K11. "A bundle is a u32 count of at most 4,096, then count + 1 u32 offsets, little endian, then the
 -- messages. The first offset is the header's length, the last the bundle's, none falls; equal neighbours mean an empty
 -- message. Write and read it, the same messages always giving the same bytes."
-use Rattle.std.specs.Prelude.{Bool, true, false, ◌&&◌, List, [], ◌∷◌, ◌++◌, map, ◌≡◌, ℕ, zero, suc, ◌+◌, ◌-◌, ◌*◌, ◌/◌, ◌%◌, ◌≤◌, ◌<◌, eqb, leb, ltb, length, take, drop, if◌then◌else◌}
-use Rattle.std.proofs.Math.Option.{Option, none, some}
+use Rattle.std.specs.Prelude.{Bool, true, false, ◌&&◌, List, [], ◌∷◌, ◌++◌, map, ◌≡◌, ℕ, zero, suc, ◌+◌, ◌-◌, ◌*◌, ◌/◌, ◌%◌, ◌≤◌, ◌<◌, eqb, leb, ltb, length, take, drop, Option, None, Some, if◌then◌else◌}
 use Rattle.rules.specs.Lists.{join}
 
 -- ---- "u32 [..], little endian"
@@ -111,4 +110,4 @@ message_at b k = take (offset b (suc k) - offset b k) (drop (offset b k) b)
 
 -- the messages of a bundle; `none` is "not a bundle"
 abbrev pub read_bundle : List ℕ → Option (List (List ℕ))
-read_bundle b = if is_bundle b then some (messages_in b) else none
+read_bundle b = if is_bundle b then Some (messages_in b) else None

@@ -4,27 +4,26 @@
 ghost use Rattle.std.specs.Prelude.{true, ◌≡◌, ◌+◌, ◌<◌, ◌≤◌, suc, length};
 ghost use Rattle.bundle.specs.Answers.{count_answer, counted_says, message_answer, message_says};
 ghost use Rattle.bundle.specs.Bundle.{count_of, is_bundle, offset, u32_at};
+ghost use Rattle.bundle.specs.declared.BundleError.{BundleError};
 
-use rules::{LIMIT, Part};
+use rules::{Part, TooLong, within_limit};
 
 // The most messages of one bundle.
 pub const MOST: usize = 4096;
 
-// Of `bundle_count`.
-#[derive(Drop)]
-pub enum BundleCounted {
-    Messages(usize),
+// Why a call on a bundle refuses.
+#[derive(Clone, Copy, Debug, PartialEq, Eq)]
+pub enum BundleError {
     TooLong,
     NotABundle,
 }
 
-// Of `bundle_message`: where the message stands in the bundle.
-#[derive(Drop)]
-pub enum MessageFound {
-    At(Part),
-    NoSuchMessage,
-    TooLong,
-    NotABundle,
+impl From<TooLong> for BundleError {
+    ghost from_gives = { λ _ e. e ≡ BundleError.TooLong };
+
+    fn from(_over: TooLong) -> BundleError {
+        BundleError::TooLong
+    }
 }
 
 // The u32 at `at`, little endian.
@@ -32,14 +31,11 @@ pub fn read_u32(s: &[u8], at: usize) -> usize
     requires { at + 4 ≤ length s.now }
     ensures { result ≡ u32_at s.now at }
 {
-    let first = s[at] as usize;
-    let second = s[at + 1] as usize;
-    let third = s[at + 2] as usize;
-    let fourth = s[at + 3] as usize;
-    first + 256 * (second + 256 * (third + 256 * fourth))
+    u32::from_le_bytes([s[at], s[at + 1], s[at + 2], s[at + 3]]) as usize
 }
 
 // Whether bytes are a bundle. The count is judged before it is multiplied, the length before the offsets are read.
+#[tactic(auto, unfolding(crate::specs::Bundle::is_bundle))]
 pub fn is_bundle(bundle: &[u8]) -> bool
     ensures { result ≡ is_bundle bundle.now }
 {
@@ -58,19 +54,18 @@ pub fn is_bundle(bundle: &[u8]) -> bool
     if at != header {
         return false;
     }
-    let mut k = 0;
-    while k < count {
+    for k in 0..count {
         let next = read_u32(bundle, 8 + 4 * k);
         if next < at {
             return false;
         }
         at = next;
-        k += 1;
     }
     at == bundle.len()
 }
 
 // Where message k of a bundle stands in it.
+#[tactic(auto, using(crate::proofs::Judged::part_there, crate::proofs::Judged::offset_behind))]
 pub fn message_part(bundle: &[u8], k: usize) -> Part
     requires { (is_bundle bundle.now ≡ true) × (k < count_of bundle.now) }
     ensures start_value { (result.start ≡ offset bundle.now k) × (result.end ≡ offset bundle.now (suc k)) }
@@ -83,30 +78,22 @@ pub fn message_part(bundle: &[u8], k: usize) -> Part
 }
 
 // The number of messages of a bundle.
-pub fn bundle_count(bundle: &[u8]) -> BundleCounted
+pub fn bundle_count(bundle: &[u8]) -> Result<usize, BundleError>
     ensures { counted_says result ≡ count_answer bundle.now }
 {
-    if bundle.len() > LIMIT {
-        return BundleCounted::TooLong;
-    }
+    within_limit(bundle)?;
     if !is_bundle(bundle) {
-        return BundleCounted::NotABundle;
+        return Err(BundleError::NotABundle);
     }
-    BundleCounted::Messages(read_u32(bundle, 0))
+    Ok(read_u32(bundle, 0))
 }
 
-// Where message k of a bundle stands in it, counted from 0.
-pub fn bundle_message(bundle: &[u8], k: usize) -> MessageFound
+// Where message k of a bundle stands in it, counted from 0; none is there from the count on.
+pub fn bundle_message(bundle: &[u8], k: usize) -> Result<Option<Part>, BundleError>
     ensures { message_says result ≡ message_answer bundle.now k }
 {
-    if bundle.len() > LIMIT {
-        return MessageFound::TooLong;
+    if k >= bundle_count(bundle)? {
+        return Ok(None);
     }
-    if !is_bundle(bundle) {
-        return MessageFound::NotABundle;
-    }
-    if k >= read_u32(bundle, 0) {
-        return MessageFound::NoSuchMessage;
-    }
-    MessageFound::At(message_part(bundle, k))
+    Ok(Some(message_part(bundle, k)))
 }

@@ -1,19 +1,24 @@
 -- The answer of `write_bundle`: document 02, K11. "Refusals: 12, not a bundle, or more than 4,096 messages to write, after 1 for an
 -- input and 2 for a range, and before 1 for the result and 3."
-use Rattle.std.specs.Prelude.{List, [], ◌∷◌, ℕ, leb, length}
-use Rattle.rules.specs.Answers.{Said, says, afterwards, judged, misplaced, no_room, too_long}
+use Rattle.std.specs.Prelude.{List, [], ◌∷◌, ℕ, leb, length, Result}
+use Rattle.rules.specs.Answers.{Said, says, afterwards, judged, misplaced, no_room, said_by, too_long}
 use Rattle.bundle.specs.Answers.{not_a_bundle}
 use Rattle.bundle.specs.Bundle.{bundle_of, most}
 use Rattle.bundling.specs.Writing.{lent, ranges_fit}
-use Rattle.bundling.specs.declared.BundleWritten.{BundleWritten}
+use Rattle.bundling.specs.declared.BundlingError.{BundlingError}
 
 -- the length written
-abbrev pub written_says : BundleWritten → Said
-written_says (BundleWritten.Length n) = says 0 (n ∷ [])
-written_says BundleWritten.TooLong = says 1 []
-written_says BundleWritten.BadPlace = says 2 []
-written_says BundleWritten.NotABundle = says 12 []
-written_says (BundleWritten.NoRoom needed) = says 3 (needed ∷ [])
+abbrev pub length_values : ℕ → List ℕ
+length_values n = n ∷ []
+
+abbrev pub bundling_refused : BundlingError → Said
+bundling_refused BundlingError.TooLong = says 1 []
+bundling_refused BundlingError.BadPlace = says 2 []
+bundling_refused BundlingError.NotABundle = says 12 []
+bundling_refused (BundlingError.NoRoom needed) = says 3 (needed ∷ [])
+
+abbrev pub written_says : Result ℕ BundlingError → Said
+written_says = said_by length_values bundling_refused
 
 -- of the messages and their bundle, behind the input and the ranges
 abbrev pub bundle_answer : List (List ℕ) → List ℕ → ℕ → Said

@@ -1,146 +1,169 @@
 // Writing a bundle of messages that are lent as ranges of one input.
 #![tactic(auto)]
 
-ghost use Rattle.std.specs.Prelude.{true, map, ◌≡◌, ◌+◌, ◌*◌, ◌<◌, ◌≤◌, ◌^◌, length};
+ghost use Rattle.std.specs.Prelude.{true, None, Some, map, ◌≡◌, ◌+◌, ◌*◌, ◌<◌, ◌≤◌, ◌^◌, List, ℕ, length, if◌then◌else◌};
 ghost use Rattle.rules.specs.Answers.{limit};
 ghost use Rattle.rules.specs.Lists.{join};
 ghost use Rattle.copy.specs.Onto.{onto};
-ghost use Rattle.bundle.specs.Bundle.{bundle_of, ends, most, u32le};
+ghost use Rattle.bundle.specs.Bundle.{bundle_of, ends, header_length, u32_top, u32le};
 ghost use Rattle.bundling.specs.Answers.{write_answer, write_buffer, written_says};
+ghost use Rattle.bundling.specs.Pairs.{all_fit, parts_of};
 ghost use Rattle.bundling.specs.Writing.{lent, ranges_fit};
+ghost use Rattle.bundling.specs.declared.BundlingError.{BundlingError};
 
 use bundle::MOST;
 use copy::copy_at;
-use rules::LIMIT;
+use rules::{LIMIT, TooLong, within_limit};
+use std::marker::Model;
 
-// Of `write_bundle`: the length written, or why nothing was; `NoRoom` has the exact length needed.
-#[derive(Drop)]
-pub enum BundleWritten {
-    Length(usize),
+// Why `write_bundle` wrote nothing; `NoRoom` has the exact length needed.
+#[derive(Clone, Copy, Debug, PartialEq, Eq)]
+pub enum BundlingError {
     TooLong,
     BadPlace,
     NotABundle,
     NoRoom(usize),
 }
 
-// Writes a number as a u32, little endian.
-fn put_u32(n: usize, out: &mut [u8], at: usize)
-    requires { at + 4 ≤ length out.old }
-    ensures { out.new ≡ onto at (u32le n) out.old }
-{
-    let second = n / 256;
-    let third = second / 256;
-    let fourth = third / 256;
-    out[at] = (n % 256) as u8;
-    out[at + 1] = (second % 256) as u8;
-    out[at + 2] = (third % 256) as u8;
-    out[at + 3] = (fourth % 256) as u8;
+impl From<TooLong> for BundlingError {
+    ghost from_gives = { λ _ e. e ≡ BundlingError.TooLong };
+
+    fn from(_over: TooLong) -> BundlingError {
+        BundlingError::TooLong
+    }
+}
+
+// The messages to write: the parts of an input from a start up to an end each, all of which fit.
+#[derive(Drop)]
+struct Lent<'a> {
+    input: &'a [u8],
+    ranges: &'a [[usize; 2]],
+}
+
+impl<'a> Model for Lent<'a> {
+    ghost Value = { List (List ℕ) };
+
+    ghost view = { λ m. parts_of m.input.now m.ranges.now };
+
+    ghost invariant = { λ m. all_fit m.input.now m.ranges.now ≡ true };
+}
+
+impl<'a> Lent<'a> {
+    // The messages that the ranges lend, start and end in turn, where all of them fit.
+    fn of(input: &'a [u8], ranges: &'a [usize]) -> Option<Lent<'a>>
+        ensures { result ≡ (if ranges_fit input.now ranges.now then Some (lent input.now ranges.now) else None) }
+    {
+        let (ranges, rest) = ranges.as_chunks::<2>();
+        if rest.is_empty() && all_fit(input, ranges) {
+            Some(Lent { input, ranges })
+        } else {
+            None
+        }
+    }
+
+    // How many they are.
+    fn count(&self) -> usize
+        ensures { result ≡ length self.now }
+    {
+        self.ranges.len()
+    }
+
+    // How long they are together.
+    fn len(&self) -> usize
+        requires { length (join self.now) < 2 ^ 64 }
+        ensures { result ≡ length (join self.now) }
+    {
+        let mut len = 0;
+        for [start, end] in self.ranges {
+            len += end - start;
+        }
+        len
+    }
+
+    // Writes where each of them ends, as u32s from place 8 on; the first one starts at `header`.
+    fn put_ends(&self, header: usize, out: &mut [u8])
+        requires { (8 + 4 * length self.now ≤ length out.old) × (header + length (join self.now) < u32_top) }
+        ensures { out.new ≡ onto 8 (join (map u32le (ends header self.now))) out.old }
+    {
+        let mut ends_at = header;
+        let mut place = 8;
+        for [start, end] in self.ranges {
+            ends_at += end - start;
+            put_u32(ends_at, out, place);
+            place += 4;
+        }
+    }
+
+    // Writes them, one after another from `header` on.
+    fn put_messages(&self, header: usize, out: &mut [u8])
+        requires { header + length (join self.now) ≤ length out.old }
+        ensures { out.new ≡ onto header (join self.now) out.old }
+    {
+        let mut at = header;
+        for [start, end] in self.ranges {
+            copy_at(&self.input[*start..*end], out, at);
+            at += end - start;
+        }
+    }
+
+    // Writes their bundle, where there is room for it.
+    #[tactic(auto, using(bundle::proofs::Bundle::length_bundle))]
+    fn put_bundle(&self, out: &mut [u8])
+        requires { (length (bundle_of self.now) ≤ limit) × (length (bundle_of self.now) ≤ length out.old) }
+        ensures { out.new ≡ onto 0 (bundle_of self.now) out.old }
+    {
+        let header = header_len(self.count());
+        put_u32(self.count(), out, 0);
+        put_u32(header, out, 4);
+        self.put_ends(header, out);
+        self.put_messages(header, out);
+    }
 }
 
 // Whether every range fits.
-fn ranges_fit(input: &[u8], ranges: &[usize]) -> bool
-    ensures { result ≡ ranges_fit input.now ranges.now }
+fn all_fit(input: &[u8], ranges: &[[usize; 2]]) -> bool
+    ensures { result ≡ all_fit input.now ranges.now }
 {
-    let mut j = 0;
-    while j < ranges.len() {
-        if ranges.len() - j < 2 {
-            return false;
-        }
-        let start = ranges[j];
-        let end = ranges[j + 1];
-        if start > end {
-            return false;
-        }
-        if end > input.len() {
-            return false;
-        }
-        j += 2;
-    }
-    true
+    ranges
+        .iter()
+        .all(|[start, end]| start <= end && *end <= input.len())
 }
 
-// How long the messages are together. At most 4,096 of at most the limit each: nothing overflows.
-fn lent_len(input: &[u8], ranges: &[usize]) -> usize
-    requires { (length input.now ≤ limit) × (length ranges.now ≤ 2 * most) × (ranges_fit input.now ranges.now ≡ true) }
-    ensures { result ≡ length (join (lent input.now ranges.now)) }
+// How long the count and the offsets of a bundle are.
+fn header_len(count: usize) -> usize
+    requires { header_length count < 2 ^ 64 }
+    ensures { result ≡ header_length count }
 {
-    let mut len = 0;
-    let mut j = 0;
-    while j < ranges.len() {
-        len += ranges[j + 1] - ranges[j];
-        j += 2;
-    }
-    len
+    8 + 4 * count
 }
 
-// Writes where each message ends, as u32s from place 8 on; the first message starts at `header`.
-fn put_ends(input: &[u8], ranges: &[usize], out: &mut [u8], header: usize)
-    requires { (ranges_fit input.now ranges.now ≡ true) × (8 + 4 * length (lent input.now ranges.now) ≤ length out.old) × (header + length (join (lent input.now ranges.now)) < 2 ^ 64) }
-    ensures { out.new ≡ onto 8 (join (map u32le (ends header (lent input.now ranges.now)))) out.old }
+// Writes a number as a u32, little endian.
+fn put_u32(n: usize, out: &mut [u8], at: usize)
+    requires { (n < u32_top) × (at + 4 ≤ length out.old) }
+    ensures { out.new ≡ onto at (u32le n) out.old }
 {
-    let mut end = header;
-    let mut place = 8;
-    let mut j = 0;
-    while j < ranges.len() {
-        end += ranges[j + 1] - ranges[j];
-        put_u32(end, out, place);
-        place += 4;
-        j += 2;
-    }
+    copy_at(&(n as u32).to_le_bytes(), out, at);
 }
 
-// Writes the messages, one behind another from `header` on.
-fn put_messages(input: &[u8], ranges: &[usize], out: &mut [u8], header: usize)
-    requires { (ranges_fit input.now ranges.now ≡ true) × (header + length (join (lent input.now ranges.now)) ≤ length out.old) }
-    ensures { out.new ≡ onto header (join (lent input.now ranges.now)) out.old }
-{
-    let mut at = header;
-    let mut j = 0;
-    while j < ranges.len() {
-        let start = ranges[j];
-        let end = ranges[j + 1];
-        copy_at(&input[start..end], out, at);
-        at += end - start;
-        j += 2;
-    }
-}
-
-// Writes the bundle of messages whose ranges fit, where there is room for it.
-fn put_bundle(input: &[u8], ranges: &[usize], out: &mut [u8])
-    requires { (ranges_fit input.now ranges.now ≡ true) × (length (bundle_of (lent input.now ranges.now)) ≤ limit) × (length (bundle_of (lent input.now ranges.now)) ≤ length out.old) }
-    ensures { out.new ≡ onto 0 (bundle_of (lent input.now ranges.now)) out.old }
-{
-    let count = ranges.len() / 2;
-    let header = 8 + 4 * count;
-    put_u32(count, out, 0);
-    put_u32(header, out, 4);
-    put_ends(input, ranges, out, header);
-    put_messages(input, ranges, out, header);
-}
-
-// Writes the bundle of the messages that the ranges lend, start and end in turn, to the front of `out`.
-pub fn write_bundle(input: &[u8], ranges: &[usize], out: &mut [u8]) -> BundleWritten
+// Writes the bundle of the messages that the ranges lend, start and end in turn, to the front of `out`, and answers its length.
+#[tactic(auto, using(bundle::proofs::Bundle::length_bundle))]
+pub fn write_bundle(input: &[u8], ranges: &[usize], out: &mut [u8]) -> Result<usize, BundlingError>
     ensures result_value { written_says result ≡ write_answer input.now ranges.now (length out.old) }
     ensures out_after { out.new ≡ write_buffer input.now ranges.now out.old }
 {
-    if input.len() > LIMIT {
-        return BundleWritten::TooLong;
+    within_limit(input)?;
+    let messages = Lent::of(input, ranges).ok_or(BundlingError::BadPlace)?;
+    if messages.count() > MOST {
+        return Err(BundlingError::NotABundle);
     }
-    if !ranges_fit(input, ranges) {
-        return BundleWritten::BadPlace;
-    }
-    let count = ranges.len() / 2;
-    if count > MOST {
-        return BundleWritten::NotABundle;
-    }
-    let header = 8 + 4 * count;
-    let needed = header + lent_len(input, ranges);
+    let header = header_len(messages.count());
+    let needed = header + messages.len();
     if needed > LIMIT {
-        return BundleWritten::TooLong;
+        return Err(BundlingError::TooLong);
     }
     if out.len() < needed {
-        return BundleWritten::NoRoom(needed);
+        return Err(BundlingError::NoRoom(needed));
     }
-    put_bundle(input, ranges, out);
-    BundleWritten::Length(needed)
+    messages.put_bundle(out);
+    Ok(needed)
 }

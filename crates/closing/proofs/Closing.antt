@@ -5,16 +5,16 @@ use mathlib.Core.Bool.{Bool, true, false, not, ◌||◌}
 use mathlib.Core.List.{List, [], ◌∷◌, ◌++◌, append-nil}
 use mathlib.Core.Logic.{inl, inr}
 use mathlib.Core.Path.{◌≡◌, refl, sym, ap, ◌∙◌}
-use Prim.Native.Nat.{ℕ, ◌≤◌}
+use Prim.Native.Nat.{ℕ}
 use native.Mathlib.Omega.{arith}
-use lib.Dec.{T, T_not, not_T, eqb, eqb→eq, eqb_refl, lt→ltb, nltb→le}
+use lib.Dec.{T, T_not, not_T, eqb→eq, eqb_refl, lt→ltb, nltb→le}
 use lib.ListN.{length}
 use Rattle.rules.specs.Lists.{All, Stops, any, past, run}
 use Rattle.rules.specs.Trailer.{Trailer}
 use Rattle.rules.proofs.Lists.{or_cases, or_left, or_right, is_true, run_unique, run_past, run_all, past_stops, not_not}
-use Rattle.closing.specs.Contents.{Decimal, state_word, most_records, Good, number_of, good}
-use Rattle.closing.specs.Closing.{contents, One, ClosingNote, MayErase, Says, Reason, reason, Holds, order, NoneHolds, Refused}
-use Rattle.closing.specs.Closing.{Answer, noted, refused, AnswerOf, notes, refuses, says, clean, head, complete, note_of, first_or, answer, erases, may_erase}
+use Rattle.closing.specs.Contents.{state_word, Good, number_of, good}
+use Rattle.closing.specs.Closing.{contents, ClosingNote, MayErase, Says, Reason, reason, Holds, order, NoneHolds}
+use Rattle.closing.specs.Closing.{Answer, noted, AnswerOf, notes, refuses, says, clean, head, complete, note_of, first_or, answer, erases, may_erase}
 use Rattle.closing.specs.declared.Fault.{Fault}
 use Rattle.closing.specs.declared.Field.{Field}
 use Rattle.closing.proofs.Contents.{decimal_only, good_is, is_good}

@@ -1,16 +1,16 @@
 -- The tests say what the definitions say (good_is, is_good); a decimal has one number and a number one decimal. Assumes nothing.
-use mathlib.Core.Bool.{Bool, true, false, not, ◌&&◌, ◌||◌}
-use mathlib.Core.List.{List, [], ◌∷◌, ◌++◌, append_assoc, append-nil, nil≢cons}
-use mathlib.Core.Logic.{◌⊎◌, inl, inr}
-use mathlib.Core.Path.{◌≡◌, refl, sym, ap, ◌∙◌}
-use Prim.Native.Nat.{ℕ, zero, suc, ◌+◌, ◌-◌, ◌*◌, ◌≤◌, ◌<◌}
+use mathlib.Core.Bool.{true, false, ◌&&◌}
+use mathlib.Core.List.{List, [], ◌∷◌, ◌++◌, append_assoc, append-nil}
+use mathlib.Core.Logic.{inl, inr}
+use mathlib.Core.Path.{◌≡◌, refl, ap}
+use Prim.Native.Nat.{ℕ, ◌+◌, ◌-◌, ◌*◌, ◌≤◌, ◌<◌}
 use native.Mathlib.Omega.{arith}
 use lib.Dec.{T, T_not, not_T, eqb, eqb→eq, leb, leb→le, le→leb}
 use lib.ListN.{length}
 use Rattle.rules.specs.Bytes.{within}
 use Rattle.rules.specs.Lists.{All, all, equal, filled}
 use Rattle.rules.proofs.White.{equal_self}
-use Rattle.rules.proofs.Lists.{and_both, and_left, and_right, or_cases, or_left, or_right, equal_is, filled-append}
+use Rattle.rules.proofs.Lists.{and_both, and_left, and_right, is_true, or_cases, or_left, or_right, equal_is, filled-append}
 use Rattle.closing.specs.Contents.{digit, Decimal, one, more, state_word, most_records, Good, number_from, number_of, no_needless_zero, decimal, good_vehicle, good_records, good_state, good}
 use Rattle.closing.specs.declared.Field.{Field}
 
@@ -150,6 +150,12 @@ at_most_seven v t = short v (test_parts v (and_left (decimal v) (leb (number_of 
         let m : tenfold s 10_000_000 ≤ number_of (a ∷ b ∷ c ∷ d ∷ e ∷ f ∷ g ∷ h ∷ s) =
         number_tenfold (b ∷ c ∷ d ∷ e ∷ f ∷ g ∷ h ∷ s) (0 * 10 + (a - 48)) 1 (omega arith) in
         absurd (omega (arith, tenfold_grows s 10_000_000))
+
+-- so it is read as a number
+pub few_digits : (v : List ℕ) → T (good_records v) → (length v ≤ 7) × (all digit v ≡ true)
+unfolding good_records
+few_digits v t =
+    (at_most_seven v t, is_true (all digit v) (test_parts v (and_left (decimal v) (leb (number_of v) most_records) t)).all_digits)
 
 -- ---- the tests say what the definitions say
 

@@ -2,12 +2,11 @@
 -- contents alone (same_answer): it does not change with the order of trailers of different names, nor with others among them
 -- (any_order, others_aside). Assumes nothing.
 use Rattle.std.specs.Prelude.{if◌then◌else◌}
-use mathlib.Core.Bool.{Bool, true, false, not}
+use mathlib.Core.Bool.{Bool, true, false}
 use mathlib.Core.List.{List, [], ◌∷◌, ◌++◌, map}
 use mathlib.Core.Logic.{◌⊎◌, inl, inr}
 use mathlib.Core.Path.{◌≡◌, refl, sym, ap, ◌∙◌}
 use Prim.Native.Nat.{ℕ}
-use native.Mathlib.Omega.{arith}
 use lib.Dec.{T}
 use Rattle.rules.specs.Lists.{All}
 use Rattle.rules.specs.Trailer.{Trailer, those, token_of}
@@ -20,7 +19,7 @@ none_has f [] e = tt
 none_has f (t ∷ ts) e = at (has f (token_of t)) refl (none_has f ts)
   where
     at : (b : Bool) → has f (token_of t) ≡ b → (contents f ts ≡ [] → All (other f) ts) → All (other f) (t ∷ ts)
-    at true q h = absurd (let k : content t ∷ contents f ts ≡ [] = rw q at e in let z : ◌≡◌ {A = ℕ} 0 1 = cc in omega arith)
+    at true q h = absurd (let k : content t ∷ contents f ts ≡ [] = rw q at e in cc)
     at false q h = (rw q tt, h (rw q at e))
 
 has_none : (f : Field) (ts : List Trailer) → All (other f) ts → contents f ts ≡ []
@@ -28,7 +27,7 @@ has_none f [] a = refl
 has_none f (t ∷ ts) a = rw (is_false (has f (token_of t)) a.0) (has_none f ts a.1)
 
 pub one_trailer : (f : Field) (ts : List Trailer) (v : List ℕ) → contents f ts ≡ v ∷ [] → One f ts v
-one_trailer f [] v e = absurd (let z : ◌≡◌ {A = ℕ} 0 1 = cc in omega arith)
+one_trailer f [] v e = absurd (cc)
 one_trailer f (t ∷ ts) v e = at (has f (token_of t)) refl (one_trailer f ts v)
   where
     at : (b : Bool) → has f (token_of t) ≡ b → (contents f ts ≡ v ∷ [] → One f ts v) → One f (t ∷ ts) v

@@ -6,16 +6,15 @@ use mathlib.Core.Path.{◌≡◌, refl, sym, ap, ◌∙◌}
 use Prim.Native.Nat.{ℕ, zero, suc, ◌+◌, ◌-◌, ◌≤◌}
 use native.Mathlib.Omega.{arith}
 use borrow.Author.Tests.{le-leb}
-use lib.Dec.{T, leb}
+use lib.Dec.{T}
 use lib.ListN.{length, take, drop, length-append, length-map}
-use lib.Seq.{drop-append_seam, drop-drop, length-take-le, take-append_seam, take-take}
+use lib.Seq.{drop-append_seam, drop-drop, take-append_seam, take-take}
 use Rattle.rules.specs.Answers.{part_of}
 use Rattle.rules.specs.Lines.{Line, lines}
 use Rattle.rules.specs.Lists.{any, filled, join}
 use Rattle.rules.specs.Trailer.{Trailer, raw_value, raw_value_at, end_of, those, token_of, unfolded, walk_from}
 use Rattle.rules.specs.White.{Trimmed, trim, trim_at}
 use Rattle.rules.proofs.Lines.{join-lines}
-use Rattle.rules.proofs.Lists.{is_false}
 use Rattle.rules.proofs.Walk.{Stands, walk_stands, walk_step}
 use Rattle.rules.proofs.White.{trimmed, trim_fits}
 use Rattle.closing.specs.Closing.{has, content, contents, One}

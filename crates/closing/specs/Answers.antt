@@ -1,15 +1,15 @@
 -- What `closing_note` and `may_erase` answer: document 02, K10. "Refusals: 9, one missing; 10, one repeated; 11, a bad content; after 1,
 -- lowest first, each naming the first such field in the order above."
-use Rattle.std.specs.Prelude.{Bool, true, false, List, [], ◌∷◌, ℕ, ◌+◌, length}
-use Rattle.rules.specs.Answers.{Said, says, Row, row, judged}
+use Rattle.std.specs.Prelude.{Bool, true, false, List, [], ◌∷◌, ℕ, ◌+◌, length, Result}
+use Rattle.rules.specs.Answers.{Said, says, Row, row, judged, said_by, flag, flag_values}
 use Rattle.rules.specs.Paragraph.{message_trailers}
 use Rattle.rules.specs.Trailer.{Trailer}
 use Rattle.closing.specs.Closing.{Answer, noted, refused, answer, erases}
 use Rattle.closing.specs.Judged.{content_at}
-use Rattle.closing.specs.declared.EraseFound.{EraseFound}
 use Rattle.closing.specs.declared.Fault.{Fault}
 use Rattle.closing.specs.declared.Field.{Field}
-use Rattle.closing.specs.declared.NoteFound.{NoteFound}
+use Rattle.closing.specs.declared.Note.{Note}
+use Rattle.closing.specs.declared.NoteError.{NoteError}
 
 -- ---- the answers' numbers and values
 
@@ -28,22 +28,21 @@ field_number Field.OffloadState = 2
 abbrev pub refusal_says : Fault → Field → Said
 refusal_says k f = says (fault_number k) (field_number f ∷ [])
 
--- 1 for yes, 0 for no
-abbrev pub flag : Bool → ℕ
-flag true = 1
-flag false = 0
+-- of either call: it refuses an input over the limit, and what is no closing note
+abbrev pub error_says : NoteError → Said
+error_says NoteError.TooLong = says 1 []
+error_says (NoteError.Refused k f) = refusal_says k f
 
 -- where the vehicle starts and ends in the message, the count, and whether the state is complete
-abbrev pub note_found_says : NoteFound → Said
-note_found_says (NoteFound.Note vehicle records complete) = says 0 (vehicle.start ∷ vehicle.end ∷ records ∷ flag complete ∷ [])
-note_found_says NoteFound.TooLong = says 1 []
-note_found_says (NoteFound.Refused k f) = refusal_says k f
+abbrev pub note_shows : Note → List ℕ
+note_shows n = n.vehicle.start ∷ n.vehicle.end ∷ n.records ∷ flag n.complete ∷ []
 
-abbrev pub erase_found_says : EraseFound → Said
-erase_found_says EraseFound.Yes = says 0 (flag true ∷ [])
-erase_found_says EraseFound.No = says 0 (flag false ∷ [])
-erase_found_says EraseFound.TooLong = says 1 []
-erase_found_says (EraseFound.Refused k f) = refusal_says k f
+abbrev pub note_found_says : Result Note NoteError → Said
+note_found_says = said_by note_shows error_says
+
+-- 1 for yes, 0 for no
+abbrev pub erase_found_says : Result Bool NoteError → Said
+erase_found_says = said_by flag_values error_says
 
 -- ---- of some trailers
 

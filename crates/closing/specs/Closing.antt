@@ -1,6 +1,6 @@
 -- The closing note, its refusals and "may erase": document 02, K10. Of the trailers that the walk of a message finds, in either
 -- reading.
-use Rattle.std.specs.Prelude.{Bool, true, false, not, ◌&&◌, List, [], ◌∷◌, ◌++◌, map, ◌≡◌, ℕ, ◌+◌, ◌≤◌, T, eqb, ltb, length}
+use Rattle.std.specs.Prelude.{Bool, true, false, not, ◌&&◌, List, [], ◌∷◌, ◌++◌, map, ◌≡◌, ℕ, ◌≤◌, T, eqb, ltb, length}
 use Rattle.rules.specs.Lists.{All, any, equal, filled, past}
 use Rattle.rules.specs.Trailer.{Trailer, raw_value, same, those, token_of, unfolded}
 use Rattle.closing.specs.Contents.{name_of, Decimal, state_word, most_records, Good, number_of, good}

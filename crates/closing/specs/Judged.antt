@@ -1,7 +1,7 @@
 -- "Values are judged unfolded, with no buffer lent": document 02, K10. A content that is not empty and holds no space is the unfolded
 -- value exactly if one line of the raw value alone trims to something, and that is it (proofs/Judged); so the part of the message that
 -- this line keeps is judged in its place.
-use Rattle.std.specs.Prelude.{Bool, true, false, not, List, [], ◌∷◌, ◌++◌, map, ◌≡◌, ℕ, ◌+◌, eqb, length, if◌then◌else◌}
+use Rattle.std.specs.Prelude.{Bool, not, List, [], ◌∷◌, ◌++◌, map, ◌≡◌, ℕ, ◌+◌, eqb, length, if◌then◌else◌}
 use Rattle.rules.specs.Bytes.{space}
 use Rattle.rules.specs.Lines.{Line, lines}
 use Rattle.rules.specs.Lists.{All, any, filled}

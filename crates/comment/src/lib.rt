@@ -2,176 +2,145 @@
 // reader, which calls itself for an inner comment with the allowed depth falling.
 #![tactic(auto)]
 
-ghost use Rattle.std.specs.Prelude.{◌≡◌, ◌<◌, ◌≤◌, length, drop};
-ghost use Rattle.rules.specs.Bytes.{within};
+ghost use Rattle.std.specs.Prelude.{Bool, ◌≡◌, ℕ, ◌+◌, ◌<◌, ◌≤◌, length, drop, IfSome};
 ghost use Rattle.mailbox.specs.Grammar.{comment_text, quote_text, takes, white_byte};
-ghost use Rattle.comment.specs.Ends.{CommentEnd, GapEnd, GapStep, TextEnd, text_of, width};
+ghost use Rattle.comment.specs.Ends.{CommentEnd, Computes, GapEnd, GapStep, TextEnd, width};
+
+use mailbox::MailboxError;
 
 // Eight deep at most: how many comments may be opened in one that stands in none.
 const IN_COMMENT: usize = 7;
 
-// A piece's end: `number` is 0, and `at` the place behind it; or they are a refusal's number and place.
-#[derive(Drop)]
-pub struct End {
-    pub number: usize,
-    pub at: usize,
-}
-
-pub fn is_within(byte: u8, first: u8, last: u8) -> bool
-    ensures { result ≡ within first last byte }
-{
-    first <= byte && byte <= last
-}
-
 // White space is space and tab.
+#[tactic(auto, unfolding(mailbox::specs::Grammar::white_byte))]
 fn is_white(c: u8) -> bool
     ensures { result ≡ white_byte c }
 {
-    (c == 32) | (c == 9)
+    (c == b' ') | (c == b'\t')
 }
 
 // Whether a backslash takes the byte.
+#[tactic(auto, unfolding(mailbox::specs::Grammar::takes))]
 fn is_taken(c: u8) -> bool
     ensures { result ≡ takes c }
 {
-    (c == 9) | is_within(c, 32, 126) | (c >= 128)
+    (c == b'\t') | (b' '..=b'~').contains(&c) | !c.is_ascii()
 }
 
+#[tactic(auto, unfolding(mailbox::specs::Grammar::comment_text))]
 fn is_comment_text(c: u8) -> bool
     ensures { result ≡ comment_text c }
 {
-    is_within(c, 33, 39) | is_within(c, 42, 91) | is_within(c, 93, 126) | (c >= 128) | is_white(c)
+    (b'!'..=b'\'').contains(&c)
+        | (b'*'..=b'[').contains(&c)
+        | (b']'..=b'~').contains(&c)
+        | !c.is_ascii()
+        | is_white(c)
 }
 
-fn is_quote_text(c: u8) -> bool
+#[tactic(auto, unfolding(mailbox::specs::Grammar::quote_text))]
+pub fn is_quote_text(c: u8) -> bool
     ensures { result ≡ quote_text c }
 {
-    (c == 33) | is_within(c, 35, 91) | is_within(c, 93, 126) | (c >= 128) | is_white(c)
+    (c == b'!')
+        | (b'#'..=b'[').contains(&c)
+        | (b']'..=b'~').contains(&c)
+        | !c.is_ascii()
+        | is_white(c)
 }
 
-// Whether the byte is text in quotes, or in a comment.
-fn is_text(c: u8, quoted: bool) -> bool
-    ensures { result ≡ text_of quoted c }
+// How many bytes at `at` are text: 1, or 2 with a backslash, or none; nothing where a backslash takes nothing.
+fn text_width<F: Fn(u8) -> bool>(s: &[u8], at: usize, is_text: &F) -> Option<usize>
+    requires callable { F.IsAlwaysCallable is_text.now }
+    requires inside { at < length s.now }
+    ensures value { (p : ℕ → Bool) → Computes (F.post is_text.now) p → result ≡ width p (drop at s.now) }
+    ensures within { IfSome result (λ n. at + n ≤ length s.now) }
 {
-    if quoted {
-        return is_quote_text(c);
+    if is_text(s[at]) {
+        return Some(1);
     }
-    is_comment_text(c)
-}
-
-// How many bytes at `at` are text: 1, or 2 with a backslash; 3: a backslash that takes nothing; 0: none.
-fn text_width(s: &[u8], at: usize, quoted: bool) -> usize
-    requires { at < length s.now }
-    ensures { result ≡ width quoted (drop at s.now) }
-{
-    let c = s[at];
-    if is_text(c, quoted) {
-        return 1;
-    }
-    if c != 92 {
-        return 0;
+    if s[at] != b'\\' {
+        return Some(0);
     }
     if at + 1 == s.len() {
-        return 3;
+        return None;
     }
     if is_taken(s[at + 1]) {
-        return 2;
+        return Some(2);
     }
-    3
+    None
 }
 
-// Over the text in quotes or in a comment, up to a byte that is none, or the value's end.
-pub fn text_end(s: &[u8], at: usize, quoted: bool) -> End
-    requires { at ≤ length s.now }
-    ensures { TextEnd quoted s.now at result }
+// Over the text in quotes or in a comment, up to a byte that is none, or the value's end; `is_text` says which bytes are text there.
+pub fn text_end<F: Fn(u8) -> bool>(s: &[u8], at: usize, is_text: F) -> Result<usize, MailboxError>
+    requires callable { F.IsAlwaysCallable is_text }
+    requires inside { at ≤ length s.now }
+    ensures { (p : ℕ → Bool) → Computes (F.post is_text) p → TextEnd p s.now at result }
 {
     let mut i = at;
     while i < s.len() {
-        let w = text_width(s, i, quoted);
+        let Some(w) = text_width(s, i, &is_text) else {
+            return Err(MailboxError::NotAMailbox { at: i + 1 });
+        };
         if w == 0 {
-            return End { number: 0, at: i };
-        }
-        if w == 3 {
-            return End {
-                number: 14,
-                at: i + 1,
-            };
+            return Ok(i);
         }
         i += w;
     }
-    End { number: 0, at: i }
+    Ok(i)
 }
 
-// From behind the bracket that opens a comment to behind the one that closes it; `allowed` more may be opened inside.
-fn comment_end(s: &[u8], at: usize, allowed: usize) -> End
+// From after the bracket that opens a comment to after the one that closes it; `allowed` more may be opened inside.
+fn comment_end(s: &[u8], at: usize, allowed: usize) -> Result<usize, MailboxError>
     requires { (allowed ≤ 8) × (at ≤ length s.now) }
     ensures { CommentEnd s.now at allowed result }
 {
     let mut i = at;
     while i < s.len() {
-        let t = text_end(s, i, false);
-        if t.number != 0 {
-            return t;
-        }
-        let p = t.at;
+        let p = text_end(s, i, is_comment_text)?;
         if p == s.len() {
-            return End { number: 14, at: p };
+            return Err(MailboxError::NotAMailbox { at: p });
         }
-        let c = s[p];
-        if c == 41 {
-            return End {
-                number: 0,
-                at: p + 1,
-            };
+        if s[p] == b')' {
+            return Ok(p + 1);
         }
-        if c != 40 {
-            return End { number: 14, at: p };
+        if s[p] != b'(' {
+            return Err(MailboxError::NotAMailbox { at: p });
         }
         if allowed == 0 {
-            return End { number: 15, at: p };
+            return Err(MailboxError::NinthComment { at: p });
         }
-        let e = comment_end(s, p + 1, allowed - 1);
-        if e.number != 0 {
-            return e;
-        }
-        i = e.at;
+        i = comment_end(s, p + 1, allowed - 1)?;
     }
-    End { number: 14, at: i }
+    Err(MailboxError::NotAMailbox { at: i })
 }
 
 // Over a byte of white space or a comment; the same place where there is neither.
-fn gap_step(s: &[u8], at: usize) -> End
+fn gap_step(s: &[u8], at: usize) -> Result<usize, MailboxError>
     requires { at < length s.now }
     ensures { GapStep s.now at result }
 {
-    let c = s[at];
-    if c == 40 {
+    if s[at] == b'(' {
         return comment_end(s, at + 1, IN_COMMENT);
     }
-    if is_white(c) {
-        return End {
-            number: 0,
-            at: at + 1,
-        };
+    if is_white(s[at]) {
+        return Ok(at + 1);
     }
-    End { number: 0, at: at }
+    Ok(at)
 }
 
 // Over white space and comments, up to a byte that is neither, or the value's end.
-pub fn gap_end(s: &[u8], at: usize) -> End
+pub fn gap_end(s: &[u8], at: usize) -> Result<usize, MailboxError>
     requires { at ≤ length s.now }
     ensures { GapEnd s.now at result }
 {
     let mut i = at;
     while i < s.len() {
-        let e = gap_step(s, i);
-        if e.number != 0 {
-            return e;
+        let next = gap_step(s, i)?;
+        if next == i {
+            return Ok(i);
         }
-        if e.at == i {
-            return e;
-        }
-        i = e.at;
+        i = next;
     }
-    End { number: 0, at: i }
+    Ok(i)
 }

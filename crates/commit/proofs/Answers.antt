@@ -1,27 +1,29 @@
 -- The answers of the calls. A content is accepted exactly where its header is good (commit_good, commit_only). The line that is asked for
 -- stands where the answer says (line_shown), past the last is the end (line_end), and the message is what is behind the header
 -- (message_shown), so that it goes through every reading unchanged (message_unchanged). Assumes nothing.
-use mathlib.Core.Bool.{true, false, not}
+use Rattle.std.specs.Prelude.{Option, Some, None, Err}
+use mathlib.Core.Bool.{false, not}
 use mathlib.Core.List.{List, [], ◌∷◌, ◌++◌, append_assoc, append-nil}
 use mathlib.Core.Path.{◌≡◌, refl, sym, ap, subst, ◌∙◌}
 use Prim.Native.Nat.{ℕ, zero, suc, ◌+◌, ◌-◌, ◌≤◌}
 use native.Mathlib.Omega.{arith}
 use borrow.Author.Tests.{le-leb, le-ltb, ltb-false}
 use lib.Dec.{T}
-use lib.ListN.{length, take, drop, length-append}
+use lib.ListN.{length, take, length-append}
 use lib.Seq.{take-append_seam, drop-append_seam}
 use Rattle.rules.specs.Answers.{Said, says, limit, over_limit, part_of}
 use Rattle.rules.specs.Bytes.{LF, space}
 use Rattle.rules.specs.Lines.{lines}
-use Rattle.rules.proofs.Answers.{Decides, decides}
+use Rattle.rules.proofs.Answers.{Decides, reread, said_decides}
 use Rattle.rules.proofs.Lists.{is_false}
 use Rattle.rules.specs.declared.Part.{Part}
-use Rattle.commit.specs.Answers.{line_says, message_says, behind_header, placed, line_of, line_in, line_answer, message_start, message_in, message_answer, ShowsLine, ShowsMessage}
+use Rattle.commit.specs.Answers.{commit_refused, line_values, line_says, message_values, message_says, behind_header, placed, line_of, line_in, message_start, message_in, message_answer, ShowsLine, ShowsMessage}
 use Rattle.commit.specs.Grammar.{HeaderLine, named, written, written_all, Good, At, here, there}
 use Rattle.commit.specs.Place.{accepted}
-use Rattle.commit.specs.Reader.{at_tree, Reading, reads, stops, read, answer, commit}
-use Rattle.commit.specs.declared.LineFound.{LineFound}
-use Rattle.commit.specs.declared.MessageFound.{MessageFound}
+use Rattle.commit.specs.Reader.{Reading, reads, stops, read, answer, commit}
+use Rattle.commit.specs.declared.CommitError.{CommitError}
+use Rattle.commit.specs.declared.HeaderLine.{HeaderLine as LineParts}
+use Rattle.commit.specs.declared.Phase.{Phase}
 use Rattle.commit.proofs.Completing.{all_written}
 use Rattle.commit.proofs.Accepts.{accepts}
 use Rattle.commit.proofs.Derives.{derives}
@@ -32,16 +34,16 @@ pub commit_good : (content : List ℕ) (header : List HeaderLine) (message : Lis
 unfolding commit
 commit_good content header message g = ap answer (accepts content header message g)
 
-commit_only_at : (content : List ℕ) (r : Reading) (header : List HeaderLine) (message : List ℕ) → read at_tree 0 (lines content) ≡ r → answer r ≡ accepted header message
+commit_only_at : (content : List ℕ) (r : Reading) (header : List HeaderLine) (message : List ℕ) → read Phase.Tree 0 (lines content) ≡ r → answer r ≡ accepted header message
     → Good content header message
 commit_only_at content (reads u hs m) header message e d =
     let i : reads u hs m ≡ reads u header message = (let p : hs ≡ header = cc in let q : m ≡ message = cc in cc) in
     derives content 0 u header message (e ∙ i)
-commit_only_at content (stops k) header message e d = let z : ◌≡◌ {A = ℕ} 0 1 = cc in absurd (omega arith)
+commit_only_at content (stops k) header message e d = cc
 
 pub commit_only : (content : List ℕ) (header : List HeaderLine) (message : List ℕ) → commit content ≡ accepted header message → Good content header message
 unfolding commit
-commit_only content header message e = commit_only_at content (read at_tree 0 (lines content)) header message refl e
+commit_only content header message e = commit_only_at content (read Phase.Tree 0 (lines content)) header message refl e
 
 -- a good content within the limit is not refused
 pub not_refused : (content : List ℕ) (header : List HeaderLine) (message : List ℕ) (answer : Said) → Good content header message → T (not (over_limit content))
@@ -159,35 +161,32 @@ message_unchanged reading content header message g h =
 abbrev part : ℕ → ℕ → Part
 part start end = record { start = start; end = end }
 
-abbrev line_found : Said → LineFound
-line_found (says zero []) = LineFound.End
-line_found (says zero (a ∷ [])) = LineFound.End
-line_found (says zero (a ∷ b ∷ [])) = LineFound.End
-line_found (says zero (a ∷ b ∷ c ∷ [])) = LineFound.End
-line_found (says zero (a ∷ b ∷ c ∷ d ∷ rest)) = LineFound.Line (part a b) (part c d)
-line_found (says (suc n) []) = LineFound.TooLong
-line_found (says (suc n) (line ∷ rest)) = LineFound.BadHeader line
+abbrev error : ℕ → List ℕ → CommitError
+error n [] = CommitError.TooLong
+error n (line ∷ rest) = CommitError.BadHeader line
 
-line_back : (a : LineFound) → line_found (line_says a) ≡ a
-line_back (LineFound.Line name content) = refl
-line_back LineFound.End = refl
-line_back LineFound.TooLong = refl
-line_back (LineFound.BadHeader line) = refl
+error_back : {A : Type 0} (read : List ℕ → A) (e : CommitError) → reread read error (commit_refused e) ≡ Err e
+error_back read CommitError.TooLong = refl
+error_back read (CommitError.BadHeader line) = refl
+
+abbrev line_found : List ℕ → Option LineParts
+line_found [] = None
+line_found (a ∷ []) = None
+line_found (a ∷ b ∷ []) = None
+line_found (a ∷ b ∷ c ∷ []) = None
+line_found (a ∷ b ∷ c ∷ d ∷ rest) = Some (record { name = part a b; content = part c d })
 
 pub line_decides : Decides line_says
-line_decides = decides line_says line_found line_back
+line_decides = said_decides line_values commit_refused line_found error by (error_back line_found)
+  where
+    by : (o : Option LineParts) → line_found (line_values o) ≡ o
+    by (Some l) = refl
+    by None = refl
 
-abbrev message_found : Said → MessageFound
-message_found (says zero []) = MessageFound.TooLong
-message_found (says zero (a ∷ [])) = MessageFound.TooLong
-message_found (says zero (a ∷ b ∷ rest)) = MessageFound.Message (part a b)
-message_found (says (suc n) []) = MessageFound.TooLong
-message_found (says (suc n) (line ∷ rest)) = MessageFound.BadHeader line
-
-message_back : (a : MessageFound) → message_found (message_says a) ≡ a
-message_back (MessageFound.Message message) = refl
-message_back MessageFound.TooLong = refl
-message_back (MessageFound.BadHeader line) = refl
+abbrev message_found : List ℕ → Part
+message_found [] = part 0 0
+message_found (a ∷ []) = part 0 0
+message_found (a ∷ b ∷ rest) = part a b
 
 pub message_decides : Decides message_says
-message_decides = decides message_says message_found message_back
+message_decides = said_decides message_values commit_refused message_found error (λ p. refl) (error_back message_found)

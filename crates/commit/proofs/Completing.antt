@@ -9,27 +9,27 @@ use Rattle.rules.specs.Lines.{inner}
 use Rattle.rules.specs.Lists.{All, filled}
 use Rattle.rules.proofs.Lists.{all_of}
 use Rattle.commit.specs.Grammar.{name_byte, hex_digit, Size, Identifier, HeaderLine, named, written, written_all, Continued, Identifiers, Others, Good}
-use Rattle.commit.specs.Reader.{Phase, at_tree, at_parents, at_committer, at_others, at_under}
+use Rattle.commit.specs.declared.Phase.{Phase}
 use Rattle.commit.proofs.Shapes.{T_all, hex_inner}
 
 pub data Completing : Phase → List HeaderLine → Type 0 where
-  tree : {size : ℕ} {t : List ℕ} {hs : List HeaderLine} → Size size → Identifier size t → Completing (at_parents size) hs
-      → Completing at_tree (named (bytes "tree") t ∷ hs)
-  parent : {size : ℕ} {t : List ℕ} {hs : List HeaderLine} → Identifier size t → Completing (at_parents size) hs
-      → Completing (at_parents size) (named (bytes "parent") t ∷ hs)
-  author : {size : ℕ} {t : List ℕ} {hs : List HeaderLine} → All inner t → Completing at_committer hs → Completing (at_parents size) (named (bytes "author") t ∷ hs)
-  committer : {t : List ℕ} {hs : List HeaderLine} → All inner t → Completing at_others hs → Completing at_committer (named (bytes "committer") t ∷ hs)
-  others : {hs : List HeaderLine} → Others hs → Completing at_others hs
-  under : {hs : List HeaderLine} → Others hs → Completing at_under hs
+  tree : {size : ℕ} {t : List ℕ} {hs : List HeaderLine} → Size size → Identifier size t → Completing (Phase.Parents size) hs
+      → Completing Phase.Tree (named (bytes "tree") t ∷ hs)
+  parent : {size : ℕ} {t : List ℕ} {hs : List HeaderLine} → Identifier size t → Completing (Phase.Parents size) hs
+      → Completing (Phase.Parents size) (named (bytes "parent") t ∷ hs)
+  author : {size : ℕ} {t : List ℕ} {hs : List HeaderLine} → All inner t → Completing Phase.Committer hs → Completing (Phase.Parents size) (named (bytes "author") t ∷ hs)
+  committer : {t : List ℕ} {hs : List HeaderLine} → All inner t → Completing Phase.Others hs → Completing Phase.Committer (named (bytes "committer") t ∷ hs)
+  others : {hs : List HeaderLine} → Others hs → Completing Phase.Others hs
+  under : {hs : List HeaderLine} → Others hs → Completing Phase.Under hs
 
 -- ---- the grammar gives them
 
-parents_on : {size : ℕ} {ps : List (List ℕ)} {hs : List HeaderLine} → Identifiers size ps → Completing (at_parents size) hs
-    → Completing (at_parents size) (map (named (bytes "parent")) ps ++ hs)
+parents_on : {size : ℕ} {ps : List (List ℕ)} {hs : List HeaderLine} → Identifiers size ps → Completing (Phase.Parents size) hs
+    → Completing (Phase.Parents size) (map (named (bytes "parent")) ps ++ hs)
 parents_on Identifiers.none f = f
 parents_on (Identifiers.more i is) f = parent i (parents_on is f)
 
-pub good_completing : {content : List ℕ} {header : List HeaderLine} {message : List ℕ} → Good content header message → Completing at_tree header
+pub good_completing : {content : List ℕ} {header : List HeaderLine} {message : List ℕ} → Good content header message → Completing Phase.Tree header
 good_completing g =
     rw g.order (tree g.one_size g.tree_id (parents_on g.parent_ids (author g.author_line (committer g.committer_line (others g.other_lines)))))
 
@@ -47,7 +47,7 @@ record Tail (size : ℕ) (hs : List HeaderLine) : Type 0 where
   committed_line : All inner committed
   rest_lines : Others rest
 
-tail : {size : ℕ} {hs : List HeaderLine} → Completing (at_parents size) hs → Tail size hs
+tail : {size : ℕ} {hs : List HeaderLine} → Completing (Phase.Parents size) hs → Tail size hs
 tail (parent {t = t} i f) =
     let r = tail f in
     record {
@@ -64,7 +64,7 @@ tail (parent {t = t} i f) =
 tail (author {t = t} a (committer {t = s} b (others {hs = hs} o))) =
     record { parents = []; by = t; committed = s; rest = hs; order = refl; ids = Identifiers.none; by_line = a; committed_line = b; rest_lines = o }
 
-pub completing_good : {content : List ℕ} {header : List HeaderLine} {message : List ℕ} → Completing at_tree header → content ≡ written_all header ++ LF ∷ message
+pub completing_good : {content : List ℕ} {header : List HeaderLine} {message : List ℕ} → Completing Phase.Tree header → content ≡ written_all header ++ LF ∷ message
     → Good content header message
 completing_good (tree {size = k} {t = t} z i f) e =
     let r = tail f in

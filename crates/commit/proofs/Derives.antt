@@ -1,10 +1,9 @@
 -- What is read is good (derives): what is read from a phase on completes it. Assumes nothing.
-use Rattle.std.specs.Prelude.{if◌then◌else◌}
+use Rattle.std.specs.Prelude.{Option, Some, None, if◌then◌else◌}
 use mathlib.Core.Bool.{Bool, true, false, not}
 use mathlib.Core.List.{List, [], ◌∷◌, ◌++◌, append_assoc, append-nil}
 use mathlib.Core.Path.{◌≡◌, refl, sym, ap, subst, ◌∙◌}
 use Prim.Native.Nat.{ℕ, ◌-◌}
-use native.Mathlib.Omega.{arith}
 use lib.Dec.{T, eqb, eqb→eq}
 use lib.ListN.{length}
 use Rattle.rules.specs.Bytes.{bytes, LF, space}
@@ -13,18 +12,20 @@ use Rattle.rules.specs.Lists.{All, all, equal, filled, join}
 use Rattle.rules.proofs.Lists.{and_left, and_right, equal_is}
 use Rattle.rules.proofs.Lines.{join-lines}
 use Rattle.commit.specs.Grammar.{name_byte, four, hex_digit, sha1, sha256, Identifier, HeaderLine, named, written_all, Continued, Others, Good, counted}
-use Rattle.commit.specs.Reader.{Shape, empty, continues, names, wrong, shape, Phase, at_tree, at_parents, at_committer, at_others, at_under, Turn, on, end, fault}
+use Rattle.commit.specs.Reader.{Shape, empty, continues, names, wrong, shape}
 use Rattle.commit.specs.Reader.{identifier, empty_line, named_line, step, Reading, reads, stops, put, turned, read}
+use Rattle.commit.specs.declared.Phase.{Phase}
+use Rattle.commit.specs.declared.Turn.{Turn}
 use Rattle.commit.proofs.Shapes.{Is, shape_is, T_all}
 use Rattle.commit.proofs.Completing.{Completing, tree, parent, author, committer, others, under, completing_good, all_written}
 
 -- what may continue the line above a phase
 abbrev Above : Phase → List ℕ → Type 0
-Above at_tree u = u ≡ []
-Above (at_parents size) u = u ≡ []
-Above at_committer u = u ≡ []
-Above at_others u = u ≡ []
-Above at_under u = Continued u
+Above Phase.Tree u = u ≡ []
+Above (Phase.Parents size) u = u ≡ []
+Above Phase.Committer u = u ≡ []
+Above Phase.Others u = u ≡ []
+Above Phase.Under u = Continued u
 
 record Rest (ph : Phase) (ls : List Line) (u : List ℕ) (hs : List HeaderLine) (m : List ℕ) : Type 0 where
   text : LF ∷ join ls ≡ u ++ LF ∷ (written_all hs ++ LF ∷ m)
@@ -33,12 +34,12 @@ record Rest (ph : Phase) (ls : List Line) (u : List ℕ) (hs : List HeaderLine) 
 
 -- ---- a line in front, by what it does
 
-abbrev After : List ℕ → List HeaderLine → Turn → Type 0
-After u hs (on to) = Above to u × Completing to hs
-After u hs end = ⊥
-After u hs fault = ⊥
+abbrev After : List ℕ → List HeaderLine → Option Turn → Type 0
+After u hs (Some (Turn.To to)) = Above to u × Completing to hs
+After u hs (Some Turn.End) = ⊥
+After u hs None = ⊥
 
-either : {Q : Type 0} (P : Turn → Type 0) (b : Bool) (x y : Turn) → (T b → P x → Q) → (T (not b) → P y → Q) → P (if b then x else y) → Q
+either : {Q : Type 0} (P : Option Turn → Type 0) (b : Bool) (x y : Option Turn) → (T b → P x → Q) → (T (not b) → P y → Q) → P (if b then x else y) → Q
 either P true x y f g = f tt
 either P false x y f g = g tt
 
@@ -56,38 +57,38 @@ identified size t i =
       digits = T_all hex_digit t (and_right (eqb (length t) size) (all hex_digit t) i);
     }
 
-after : (u : List ℕ) (hs : List HeaderLine) (w : Turn) (to : Phase) → w ≡ on to → Above to u × Completing to hs → After u hs w
+after : (u : List ℕ) (hs : List HeaderLine) (w : Option Turn) (to : Phase) → w ≡ Some (Turn.To to) → Above to u × Completing to hs → After u hs w
 after u hs w to e x = rw e x
 
-other_on : (n t u : List ℕ) (hs : List HeaderLine) → T (filled n) → All name_byte n → All inner t → T (not (four n)) → After u hs (on at_under) → Others (named n (t ++ u) ∷ hs)
+other_on : (n t u : List ℕ) (hs : List HeaderLine) → T (filled n) → All name_byte n → All inner t → T (not (four n)) → After u hs (Some (Turn.To Phase.Under)) → Others (named n (t ++ u) ∷ hs)
 other_on n t u hs f b a d (c, under os) = Others.more t (record { some = f; name_bytes = b; none_of_four = d }) a c os
 
 named_front : (ph : Phase) (n t u : List ℕ) (hs : List HeaderLine) → T (filled n) → All name_byte n → All inner t → After u hs (named_line ph n t)
     → Above ph [] × Completing ph (named n (t ++ u) ∷ hs)
-named_front at_tree n t u hs f b a =
-    either (After u hs) (equal n (bytes "tree")) _ fault
-    (λ e. either (After u hs) (identifier 40 t) (on (at_parents 40)) _
+named_front Phase.Tree n t u hs f b a =
+    either (After u hs) (equal n (bytes "tree")) _ None
+    (λ e. either (After u hs) (identifier 40 t) (Some (Turn.To (Phase.Parents 40))) _
     (λ i x. (refl, rw (no_more n t u (bytes "tree") e x.0) (tree sha1 (identified 40 t i) x.1)))
-    (λ j. either (After u hs) (identifier 64 t) (on (at_parents 64)) fault
+    (λ j. either (After u hs) (identifier 64 t) (Some (Turn.To (Phase.Parents 64))) None
     (λ i x. (refl, rw (no_more n t u (bytes "tree") e x.0) (tree sha256 (identified 64 t i) x.1)))
     (λ i x. absurd x)))
     (λ e x. absurd x)
-named_front (at_parents k) n t u hs f b a =
+named_front (Phase.Parents k) n t u hs f b a =
     either (After u hs) (equal n (bytes "parent")) _ _
-    (λ e. either (After u hs) (identifier k t) (on (at_parents k)) fault
+    (λ e. either (After u hs) (identifier k t) (Some (Turn.To (Phase.Parents k))) None
     (λ i x. (refl, rw (no_more n t u (bytes "parent") e x.0) (parent (identified k t i) x.1)))
     (λ i x. absurd x))
-    (λ d. either (After u hs) (equal n (bytes "author")) (on at_committer) fault
+    (λ d. either (After u hs) (equal n (bytes "author")) (Some (Turn.To Phase.Committer)) None
     (λ e x. (refl, rw (no_more n t u (bytes "author") e x.0) (author a x.1)))
     (λ e x. absurd x))
-named_front at_committer n t u hs f b a =
-    either (After u hs) (equal n (bytes "committer")) (on at_others) fault
+named_front Phase.Committer n t u hs f b a =
+    either (After u hs) (equal n (bytes "committer")) (Some (Turn.To Phase.Others)) None
     (λ e x. (refl, rw (no_more n t u (bytes "committer") e x.0) (committer a x.1)))
     (λ e x. absurd x)
-named_front at_others n t u hs f b a =
-    either (After u hs) (four n) fault (on at_under) (λ e x. absurd x) (λ d x. (refl, others (other_on n t u hs f b a d x)))
-named_front at_under n t u hs f b a =
-    either (After u hs) (four n) fault (on at_under) (λ e x. absurd x) (λ d x. (Continued.none, under (other_on n t u hs f b a d x)))
+named_front Phase.Others n t u hs f b a =
+    either (After u hs) (four n) None (Some (Turn.To Phase.Under)) (λ e x. absurd x) (λ d x. (refl, others (other_on n t u hs f b a d x)))
+named_front Phase.Under n t u hs f b a =
+    either (After u hs) (four n) None (Some (Turn.To Phase.Under)) (λ e x. absurd x) (λ d x. (Continued.none, under (other_on n t u hs f b a d x)))
 
 -- ---- and its bytes
 
@@ -104,31 +105,22 @@ Front : Phase → Line → List Line → Reading → Type 0
 Front ph l ls (reads u hs m) = Rest ph (l ∷ ls) u hs m
 Front ph l ls (stops k) = ⊥
 
-pub fault_on : (to : Phase) → fault ≡ on to → ⊥
-fault_on to e = let z : ◌≡◌ {A = ℕ} 0 1 = cc in absurd (omega arith)
-
-pub end_on : (to : Phase) → end ≡ on to → ⊥
-end_on to e = let z : ◌≡◌ {A = ℕ} 0 1 = cc in absurd (omega arith)
-
-fault_end : fault ≡ end → ⊥
-fault_end e = let z : ◌≡◌ {A = ℕ} 0 1 = cc in absurd (omega arith)
-
-front : (ph to : Phase) (l : Line) (x : Shape) (ls : List Line) (u : List ℕ) (hs : List HeaderLine) (m : List ℕ) → Is l x → step ph x ≡ on to → Rest to ls u hs m
+front : (ph to : Phase) (l : Line) (x : Shape) (ls : List Line) (u : List ℕ) (hs : List HeaderLine) (m : List ℕ) → Is l x → step ph x ≡ Some (Turn.To to) → Rest to ls u hs m
     → Front ph l ls (put x (reads u hs m))
 unfolding Front
-front at_tree to l empty ls u hs m i d r = absurd (fault_on to d)
-front (at_parents k) to l empty ls u hs m i d r = absurd (fault_on to d)
-front at_committer to l empty ls u hs m i d r = absurd (fault_on to d)
-front at_others to l empty ls u hs m i d r = absurd (end_on to d)
-front at_under to l empty ls u hs m i d r = absurd (end_on to d)
-front ph to l wrong ls u hs m i d r = absurd (fault_on to d)
-front at_tree to l (continues t) ls u hs m i d r = absurd (fault_on to d)
-front (at_parents k) to l (continues t) ls u hs m i d r = absurd (fault_on to d)
-front at_committer to l (continues t) ls u hs m i d r = absurd (fault_on to d)
-front at_others to l (continues t) ls u hs m i d r = absurd (fault_on to d)
-front at_under to l (continues t) ls u hs m (e, a) d r =
-    let q : to ≡ at_under = cc in
-    let x : Rest at_under ls u hs m = rw q at r in
+front Phase.Tree to l empty ls u hs m i d r = absurd cc
+front (Phase.Parents k) to l empty ls u hs m i d r = absurd cc
+front Phase.Committer to l empty ls u hs m i d r = absurd cc
+front Phase.Others to l empty ls u hs m i d r = absurd cc
+front Phase.Under to l empty ls u hs m i d r = absurd cc
+front ph to l wrong ls u hs m i d r = absurd cc
+front Phase.Tree to l (continues t) ls u hs m i d r = absurd cc
+front (Phase.Parents k) to l (continues t) ls u hs m i d r = absurd cc
+front Phase.Committer to l (continues t) ls u hs m i d r = absurd cc
+front Phase.Others to l (continues t) ls u hs m i d r = absurd cc
+front Phase.Under to l (continues t) ls u hs m (e, a) d r =
+    let q : to ≡ Phase.Under = cc in
+    let x : Rest Phase.Under ls u hs m = rw q at r in
     record {
       text = ap (λ (z : List ℕ). LF ∷ (z ++ join ls)) e ∙ ap (λ (z : List ℕ). LF ∷ space ∷ z) (spaced_text t u (join ls) (LF ∷ (written_all hs ++ LF ∷ m)) r.text);
       above = Continued.more t a x.above;
@@ -145,42 +137,42 @@ front ph to l (names n t) ls u hs m (e, f, b, a) d r =
 
 -- ---- the empty line
 
-abbrev NotEnd : Turn → Type 0
-NotEnd (on ph) = Unit {0}
-NotEnd end = ⊥
-NotEnd fault = Unit {0}
+abbrev NotEnd : Option Turn → Type 0
+NotEnd (Some (Turn.To ph)) = Unit {0}
+NotEnd (Some Turn.End) = ⊥
+NotEnd None = Unit {0}
 
-both : (P : Turn → Type 0) (b : Bool) (x y : Turn) → P x → P y → P (if b then x else y)
+both : (P : Option Turn → Type 0) (b : Bool) (x y : Option Turn) → P x → P y → P (if b then x else y)
 both P true x y f g = f
 both P false x y f g = g
 
 not_end : (ph : Phase) (n t : List ℕ) → NotEnd (named_line ph n t)
-not_end at_tree n t =
-    both NotEnd (equal n (bytes "tree")) _ fault (both NotEnd (identifier 40 t) (on (at_parents 40)) _ tt (both NotEnd (identifier 64 t) (on (at_parents 64)) fault tt tt)) tt
-not_end (at_parents k) n t =
-    both NotEnd (equal n (bytes "parent")) _ _ (both NotEnd (identifier k t) (on (at_parents k)) fault tt tt) (both NotEnd (equal n (bytes "author")) (on at_committer) fault tt tt)
-not_end at_committer n t = both NotEnd (equal n (bytes "committer")) (on at_others) fault tt tt
-not_end at_others n t = both NotEnd (four n) fault (on at_under) tt tt
-not_end at_under n t = both NotEnd (four n) fault (on at_under) tt tt
+not_end Phase.Tree n t =
+    both NotEnd (equal n (bytes "tree")) _ None (both NotEnd (identifier 40 t) (Some (Turn.To (Phase.Parents 40))) _ tt (both NotEnd (identifier 64 t) (Some (Turn.To (Phase.Parents 64))) None tt tt)) tt
+not_end (Phase.Parents k) n t =
+    both NotEnd (equal n (bytes "parent")) _ _ (both NotEnd (identifier k t) (Some (Turn.To (Phase.Parents k))) None tt tt) (both NotEnd (equal n (bytes "author")) (Some (Turn.To Phase.Committer)) None tt tt)
+not_end Phase.Committer n t = both NotEnd (equal n (bytes "committer")) (Some (Turn.To Phase.Others)) None tt tt
+not_end Phase.Others n t = both NotEnd (four n) None (Some (Turn.To Phase.Under)) tt tt
+not_end Phase.Under n t = both NotEnd (four n) None (Some (Turn.To Phase.Under)) tt tt
 
-pub end_empty : (ph : Phase) (x : Shape) → step ph x ≡ end → x ≡ empty
+pub end_empty : (ph : Phase) (x : Shape) → step ph x ≡ Some Turn.End → x ≡ empty
 end_empty ph empty d = refl
 end_empty ph (names n t) d = absurd (rw d at (not_end ph n t))
-end_empty ph wrong d = absurd (fault_end d)
-end_empty at_tree (continues t) d = absurd (fault_end d)
-end_empty (at_parents k) (continues t) d = absurd (fault_end d)
-end_empty at_committer (continues t) d = absurd (fault_end d)
-end_empty at_others (continues t) d = absurd (fault_end d)
-end_empty at_under (continues t) d = absurd (end_on at_under (sym d))
+end_empty ph wrong d = absurd cc
+end_empty Phase.Tree (continues t) d = absurd cc
+end_empty (Phase.Parents k) (continues t) d = absurd cc
+end_empty Phase.Committer (continues t) d = absurd cc
+end_empty Phase.Others (continues t) d = absurd cc
+end_empty Phase.Under (continues t) d = absurd cc
 
-ending : (ph : Phase) → empty_line ph ≡ end → Above ph [] × Completing ph []
-ending at_tree d = absurd (fault_end d)
-ending (at_parents k) d = absurd (fault_end d)
-ending at_committer d = absurd (fault_end d)
-ending at_others d = (refl, others Others.none)
-ending at_under d = (Continued.none, under Others.none)
+ending : (ph : Phase) → empty_line ph ≡ Some Turn.End → Above ph [] × Completing ph []
+ending Phase.Tree d = absurd cc
+ending (Phase.Parents k) d = absurd cc
+ending Phase.Committer d = absurd cc
+ending Phase.Others d = (refl, others Others.none)
+ending Phase.Under d = (Continued.none, under Others.none)
 
-ends : (ph : Phase) (l : Line) (ls : List Line) → step ph (shape l) ≡ end → Rest ph (l ∷ ls) [] [] (join ls)
+ends : (ph : Phase) (l : Line) (ls : List Line) → step ph (shape l) ≡ Some Turn.End → Rest ph (l ∷ ls) [] [] (join ls)
 ends ph l ls d =
     let e : shape l ≡ empty = end_empty ph (shape l) d in
     let i : l ≡ LF ∷ [] = subst (Is l) e (shape_is l) in
@@ -196,20 +188,20 @@ put_stops (names n t) k = refl
 put_stops wrong k = refl
 
 pub never : (k : ℕ) (u : List ℕ) (hs : List HeaderLine) (m : List ℕ) → stops k ≡ reads u hs m → ⊥
-never k u hs m e = let z : ◌≡◌ {A = ℕ} 0 1 = cc in absurd (omega arith)
+never k u hs m e = cc
 
-put_front : (ph to : Phase) (l : Line) (ls : List Line) (r : Reading) (u : List ℕ) (hs : List HeaderLine) (m : List ℕ) → step ph (shape l) ≡ on to
+put_front : (ph to : Phase) (l : Line) (ls : List Line) (r : Reading) (u : List ℕ) (hs : List HeaderLine) (m : List ℕ) → step ph (shape l) ≡ Some (Turn.To to)
     → ((v : List ℕ) (is : List HeaderLine) (o : List ℕ) → r ≡ reads v is o → Rest to ls v is o) → put (shape l) r ≡ reads u hs m → Rest ph (l ∷ ls) u hs m
 unfolding Front
 put_front ph to l ls (reads v is o) u hs m d h e = rw e at (front ph to l (shape l) ls v is o (shape_is l) d (h v is o refl))
 put_front ph to l ls (stops k) u hs m d h e = absurd (never k u hs m (sym (put_stops (shape l) k) ∙ e))
 
-turned_front : (ph : Phase) (l : Line) (ls : List Line) (k : ℕ) (w : Turn) (g : Phase → Reading) (u : List ℕ) (hs : List HeaderLine) (m : List ℕ) → step ph (shape l) ≡ w
+turned_front : (ph : Phase) (l : Line) (ls : List Line) (k : ℕ) (w : Option Turn) (g : Phase → Reading) (u : List ℕ) (hs : List HeaderLine) (m : List ℕ) → step ph (shape l) ≡ w
     → ((to : Phase) (v : List ℕ) (is : List HeaderLine) (o : List ℕ) → g to ≡ reads v is o → Rest to ls v is o) → turned w (shape l) k ls g ≡ reads u hs m → Rest ph (l ∷ ls) u hs m
 unfolding Front
-turned_front ph l ls k (on to) g u hs m d h e = put_front ph to l ls (g to) u hs m d (h to) e
-turned_front ph l ls k end g u hs m d h e = subst (Front ph l ls) e (ends ph l ls d)
-turned_front ph l ls k fault g u hs m d h e = absurd (never (k - 1) u hs m e)
+turned_front ph l ls k (Some (Turn.To to)) g u hs m d h e = put_front ph to l ls (g to) u hs m d (h to) e
+turned_front ph l ls k (Some Turn.End) g u hs m d h e = subst (Front ph l ls) e (ends ph l ls d)
+turned_front ph l ls k None g u hs m d h e = absurd (never (k - 1) u hs m e)
 
 completed : (ls : List Line) (ph : Phase) (n : ℕ) (u : List ℕ) (hs : List HeaderLine) (m : List ℕ) → read ph n ls ≡ reads u hs m → Rest ph ls u hs m
 completed [] ph n u hs m e = absurd (never n u hs m e)
@@ -217,9 +209,9 @@ completed (l ∷ ls) ph n u hs m e =
     turned_front ph l ls (counted l n) (step ph (shape l)) (λ (z : Phase). read z (counted l n) ls) u hs m refl
     (λ to v is o q. completed ls to (counted l n) v is o q) e
 
-pub derives : (content : List ℕ) (n : ℕ) (u : List ℕ) (header : List HeaderLine) (message : List ℕ) → read at_tree n (lines content) ≡ reads u header message
+pub derives : (content : List ℕ) (n : ℕ) (u : List ℕ) (header : List HeaderLine) (message : List ℕ) → read Phase.Tree n (lines content) ≡ reads u header message
     → Good content header message
 derives content n u header message e =
-    let r = completed (lines content) at_tree n u header message e in
+    let r = completed (lines content) Phase.Tree n u header message e in
     completing_good r.fields (let q : LF ∷ join (lines content) ≡ LF ∷ (written_all header ++ LF ∷ message) = rw r.above at r.text in
     let j = join-lines content in cc)

@@ -1,5 +1,6 @@
 -- The judgement alone is the reading's: how many lines the header has and where the message starts, or the number (judge-commit). Assumes
 -- nothing.
+use Rattle.std.specs.Prelude.{Option, Some, None}
 use mathlib.Core.List.{List, [], ◌∷◌, ◌++◌}
 use mathlib.Core.Path.{◌≡◌, refl, sym, ap, subst, ◌∙◌}
 use Prim.Native.Nat.{ℕ, ◌+◌}
@@ -10,11 +11,13 @@ use Rattle.rules.specs.Lines.{Line, lines}
 use Rattle.commit.specs.Answers.{message_start}
 use Rattle.commit.specs.Grammar.{HeaderLine, named, written, written_all, counted}
 use Rattle.commit.specs.Place.{Answer, accepted, refused}
-use Rattle.commit.specs.Reader.{Shape, empty, continues, names, wrong, shape, Phase, at_tree, at_parents, at_committer, at_others, at_under, Turn, on, end, fault}
+use Rattle.commit.specs.Reader.{Shape, empty, continues, names, wrong, shape}
 use Rattle.commit.specs.Reader.{step, Reading, reads, stops, put, turned, read, answer, commit, Verdict, good, bad, turned_verdict, judge}
+use Rattle.commit.specs.declared.Phase.{Phase}
+use Rattle.commit.specs.declared.Turn.{Turn}
 use Rattle.commit.proofs.Shapes.{Is, shape_is}
 use Rattle.commit.proofs.Accepts.{accepts}
-use Rattle.commit.proofs.Derives.{fault_on, end_on, end_empty, put_stops, derives}
+use Rattle.commit.proofs.Derives.{end_empty, put_stops, derives}
 use Rattle.commit.proofs.Numbers.{counted_name}
 
 -- of what is read from a place on, n lines being counted before it
@@ -42,7 +45,7 @@ same_good : (a b c d : ℕ) → a ≡ b → c ≡ d → good a c ≡ good b d
 same_good a b c d p q = cc
 
 -- a line in front of what is judged behind it
-front_verdict : (ph to : Phase) (l : Line) (x : Shape) (n at : ℕ) (r : Reading) → Is l x → step ph x ≡ on to → verdict (counted l n) (at + length l) r ≡ verdict n at (put x r)
+front_verdict : (ph to : Phase) (l : Line) (x : Shape) (n at : ℕ) (r : Reading) → Is l x → step ph x ≡ Some (Turn.To to) → verdict (counted l n) (at + length l) r ≡ verdict n at (put x r)
 front_verdict ph to l x n at (stops k) i d = ap (verdict n at) (sym (put_stops x k))
 front_verdict ph to l (names w t) n at (reads u hs m) (e, f, b, a) d =
     let k : counted l n ≡ n + 1 = ap (λ (y : Line). counted y n) e ∙ counted_name w (space ∷ (t ++ LF ∷ [])) n f b in
@@ -50,21 +53,21 @@ front_verdict ph to l (names w t) n at (reads u hs m) (e, f, b, a) d =
 front_verdict ph to l (continues t) n at (reads u hs m) (e, a) d =
     let k : counted l n ≡ n = ap (λ (y : Line). counted y n) e in
     same_good _ _ _ _ (omega (arith, k)) (omega (arith, spaced_length t u l e))
-front_verdict ph to l wrong n at (reads u hs m) i d = absurd (fault_on to d)
-front_verdict at_tree to l empty n at (reads u hs m) i d = absurd (fault_on to d)
-front_verdict (at_parents k) to l empty n at (reads u hs m) i d = absurd (fault_on to d)
-front_verdict at_committer to l empty n at (reads u hs m) i d = absurd (fault_on to d)
-front_verdict at_others to l empty n at (reads u hs m) i d = absurd (end_on to d)
-front_verdict at_under to l empty n at (reads u hs m) i d = absurd (end_on to d)
+front_verdict ph to l wrong n at (reads u hs m) i d = absurd cc
+front_verdict Phase.Tree to l empty n at (reads u hs m) i d = absurd cc
+front_verdict (Phase.Parents k) to l empty n at (reads u hs m) i d = absurd cc
+front_verdict Phase.Committer to l empty n at (reads u hs m) i d = absurd cc
+front_verdict Phase.Others to l empty n at (reads u hs m) i d = absurd cc
+front_verdict Phase.Under to l empty n at (reads u hs m) i d = absurd cc
 
-turned_verdict_lem : (ph : Phase) (l : Line) (ls : List Line) (n at : ℕ) (w : Turn) (f : Phase → Verdict) (g : Phase → Reading) → step ph (shape l) ≡ w
+turned_verdict_lem : (ph : Phase) (l : Line) (ls : List Line) (n at : ℕ) (w : Option Turn) (f : Phase → Verdict) (g : Phase → Reading) → step ph (shape l) ≡ w
     → ((to : Phase) → f to ≡ verdict (counted l n) (at + length l) (g to))
     → turned_verdict w n (counted l n) (at + length l) f ≡ verdict n at (turned w (shape l) (counted l n) ls g)
-turned_verdict_lem ph l ls n at (on to) f g d h = h to ∙ front_verdict ph to l (shape l) n at (g to) (shape_is l) d
-turned_verdict_lem ph l ls n at end f g d h =
+turned_verdict_lem ph l ls n at (Some (Turn.To to)) f g d h = h to ∙ front_verdict ph to l (shape l) n at (g to) (shape_is l) d
+turned_verdict_lem ph l ls n at (Some Turn.End) f g d h =
     let i : l ≡ LF ∷ [] = subst (Is l) (end_empty ph (shape l) d) (shape_is l) in
     same_good _ _ _ _ (omega arith) (omega (arith, ap length i))
-turned_verdict_lem ph l ls n at fault f g d h = refl
+turned_verdict_lem ph l ls n at None f g d h = refl
 
 pub judge_is : (ls : List Line) (ph : Phase) (n at : ℕ) → judge ph n at ls ≡ verdict n at (read ph n ls)
 judge_is [] ph n at = refl
@@ -77,13 +80,13 @@ abbrev pub judged_by : Answer → Verdict
 judged_by (accepted header message) = good (length header) (message_start header)
 judged_by (refused k) = bad k
 
-answer_judges : (content : List ℕ) (r : Reading) → read at_tree 0 (lines content) ≡ r → verdict 0 0 r ≡ judged_by (answer r)
+answer_judges : (content : List ℕ) (r : Reading) → read Phase.Tree 0 (lines content) ≡ r → verdict 0 0 r ≡ judged_by (answer r)
 answer_judges content (stops k) e = refl
 answer_judges content (reads u hs m) e =
     let g : reads u hs m ≡ reads [] hs m = sym e ∙ accepts content hs m (derives content 0 u hs m e) in
     let i : u ≡ [] = cc in
     same_good _ _ _ _ (omega arith) (omega (arith, ap length i))
 
-pub judge-commit : (content : List ℕ) → judge at_tree 0 0 (lines content) ≡ judged_by (commit content)
+pub judge-commit : (content : List ℕ) → judge Phase.Tree 0 0 (lines content) ≡ judged_by (commit content)
 unfolding commit
-judge-commit content = judge_is (lines content) at_tree 0 0 ∙ answer_judges content (read at_tree 0 (lines content)) refl
+judge-commit content = judge_is (lines content) Phase.Tree 0 0 ∙ answer_judges content (read Phase.Tree 0 (lines content)) refl

@@ -1,5 +1,6 @@
 -- The reader's refusal is the one that the grammar defines, and there is one only (answer_says, answer_only). Every phase can be
 -- completed (completes), and a line at which the reader stops leads to none. Assumes nothing.
+use Rattle.std.specs.Prelude.{Option, Some, None}
 use mathlib.Core.List.{List, [], ◌∷◌, ◌++◌, append_assoc, nil≢cons}
 use mathlib.Core.Logic.{◌⊎◌, inl, inr}
 use mathlib.Core.Path.{◌≡◌, refl, sym, ap, subst, ◌∙◌}
@@ -10,13 +11,15 @@ use Rattle.rules.specs.Lists.{join}
 use Rattle.rules.proofs.Lists.{Earlier, cuts, join-append}
 use Rattle.rules.proofs.Lines.{lines-append, lines_of, lines_prefix}
 use Rattle.commit.specs.Grammar.{four, hex_digit, HeaderLine, Good, counted, counts}
-use Rattle.commit.specs.Reader.{Shape, empty, continues, names, wrong, shape, Phase, at_tree, at_parents, at_committer, at_others, at_under, Turn, on, end, fault}
+use Rattle.commit.specs.Reader.{Shape, empty, continues, names, wrong, shape}
 use Rattle.commit.specs.Reader.{identifier, step, Reading, reads, stops, put, turned, read, answer, commit}
+use Rattle.commit.specs.declared.Phase.{Phase}
+use Rattle.commit.specs.declared.Turn.{Turn}
 use Rattle.commit.specs.Place as place
 use Rattle.commit.specs.Place.{Viable, Fault, Refusal, Answer, refused, Says}
 use Rattle.commit.proofs.Shapes.{Is, shape_is}
 use Rattle.commit.proofs.Accepts.{turn, accepts}
-use Rattle.commit.proofs.Derives.{fault_on, never, derives}
+use Rattle.commit.proofs.Derives.{never, derives}
 
 -- ---- readings that end well
 
@@ -48,17 +51,17 @@ ok_reads (stops k) o = absurd o
 
 data Trail : Phase → List Line → Phase → Type 0 where
   here : {ph : Phase} → Trail ph [] ph
-  further : {ph mid to : Phase} {l : Line} {ls : List Line} → step ph (shape l) ≡ on mid → Trail mid ls to → Trail ph (l ∷ ls) to
+  further : {ph mid to : Phase} {l : Line} {ls : List Line} → step ph (shape l) ≡ Some (Turn.To mid) → Trail mid ls to → Trail ph (l ∷ ls) to
 
 goes_on : {ph to : Phase} {b : List Line} (t : List Line) → Trail ph b to → ((k : ℕ) → Ok (read to k t)) → (k : ℕ) → Ok (read ph k (b ++ t))
 goes_on t here h k = h k
 goes_on t (further {ph = ph} {mid = mid} {l = l} {ls = ls} d x) h k =
     subst Ok (sym (turn ph mid l (shape l) k (ls ++ t) (read mid (counted l k) (ls ++ t)) refl d refl)) (put_ok (shape l) (read mid (counted l k) (ls ++ t)) (goes_on t x h (counted l k)))
 
-stopped : (ph : Phase) (l : Line) (t : List Line) (k : ℕ) → step ph (shape l) ≡ fault → read ph k (l ∷ t) ≡ stops (counted l k - 1)
-stopped ph l t k d = ap (λ (w : Turn). turned w (shape l) (counted l k) t (λ (z : Phase). read z (counted l k) t)) d
+stopped : (ph : Phase) (l : Line) (t : List Line) (k : ℕ) → step ph (shape l) ≡ None → read ph k (l ∷ t) ≡ stops (counted l k - 1)
+stopped ph l t k d = ap (λ (w : Option Turn). turned w (shape l) (counted l k) t (λ (z : Phase). read z (counted l k) t)) d
 
-goes_off : {ph to : Phase} {b : List Line} (l : Line) (t : List Line) → Trail ph b to → step to (shape l) ≡ fault → (k : ℕ) → Ok (read ph k (b ++ l ∷ t)) → ⊥
+goes_off : {ph to : Phase} {b : List Line} (l : Line) (t : List Line) → Trail ph b to → step to (shape l) ≡ None → (k : ℕ) → Ok (read ph k (b ++ l ∷ t)) → ⊥
 goes_off l t (here {ph = ph}) f k o = subst Ok (stopped ph l t k f) o
 goes_off l t (further {ph = ph} {mid = mid} {l = i} {ls = ls} d x) f k o =
     goes_off l t x f (counted i k) (ok_put (shape i) (read mid (counted i k) (ls ++ l ∷ t))
@@ -68,11 +71,11 @@ goes_off l t (further {ph = ph} {mid = mid} {l = i} {ls = ls} d x) f k o =
 
 completes : (ph : Phase) → (s : List ℕ) × ((k : ℕ) → Ok (read ph k (lines s)))
 unfolding four identifier hex_digit
-completes at_tree = (bytes "tree 0000000000000000000000000000000000000000\nauthor \ncommitter \n\n", λ k. tt)
-completes (at_parents size) = (bytes "author \ncommitter \n\n", λ k. tt)
-completes at_committer = (bytes "committer \n\n", λ k. tt)
-completes at_others = (bytes "\n", λ k. tt)
-completes at_under = (bytes "\n", λ k. tt)
+completes Phase.Tree = (bytes "tree 0000000000000000000000000000000000000000\nauthor \ncommitter \n\n", λ k. tt)
+completes (Phase.Parents size) = (bytes "author \ncommitter \n\n", λ k. tt)
+completes Phase.Committer = (bytes "committer \n\n", λ k. tt)
+completes Phase.Others = (bytes "\n", λ k. tt)
+completes Phase.Under = (bytes "\n", λ k. tt)
 
 -- ---- lines that end in LF
 
@@ -82,11 +85,11 @@ line_start [] (c ∷ s) h = h
 line_start (c ∷ []) s h = line_start [] s h
 line_start (c ∷ d ∷ t) s h = line_start (d ∷ t) s h
 
-ends_in_LF : (ph to : Phase) (l : Line) (x : Shape) → Is l x → step ph x ≡ on to → (t : List ℕ) × (l ≡ t ++ LF ∷ [])
+ends_in_LF : (ph to : Phase) (l : Line) (x : Shape) → Is l x → step ph x ≡ Some (Turn.To to) → (t : List ℕ) × (l ≡ t ++ LF ∷ [])
 ends_in_LF ph to l empty i d = ([], i)
 ends_in_LF ph to l (continues t) (e, a) d = (space ∷ t, e)
 ends_in_LF ph to l (names n t) (e, f, b, a) d = (n ++ space ∷ t, e ∙ sym (append_assoc n (space ∷ t) (LF ∷ [])))
-ends_in_LF ph to l wrong i d = absurd (fault_on to d)
+ends_in_LF ph to l wrong i d = absurd cc
 
 trail_start : {ph to : Phase} {b : List Line} → Trail ph b to → LineStart (join b)
 trail_start here = tt
@@ -100,32 +103,32 @@ lines_behind content b a s e h = lines-append (join b) s h ∙ ap (λ (z : List 
 
 -- ---- viable is not stopped
 
-on_viable : (content : List ℕ) (b a : List Line) (to : Phase) → lines content ≡ b ++ a → Trail at_tree b to → Viable b
+on_viable : (content : List ℕ) (b a : List Line) (to : Phase) → lines content ≡ b ++ a → Trail Phase.Tree b to → Viable b
 on_viable content b a to e x =
     let (s, f) = completes to in
-    let (u, hs, m, q) = ok_reads (read at_tree 0 (b ++ lines s)) (goes_on (lines s) x f 0) in
+    let (u, hs, m, q) = ok_reads (read Phase.Tree 0 (b ++ lines s)) (goes_on (lines s) x f 0) in
     record {
       ended = trail_start x;
       behind = s;
       header = hs;
       message = m;
-      good = derives (join b ++ s) 0 u hs m (ap (read at_tree 0) (lines_behind content b a s e (trail_start x)) ∙ q);
+      good = derives (join b ++ s) 0 u hs m (ap (read Phase.Tree 0) (lines_behind content b a s e (trail_start x)) ∙ q);
     }
 
-off_viable : (content : List ℕ) (b : List Line) (l : Line) (a : List Line) (to : Phase) → lines content ≡ b ++ l ∷ a → Trail at_tree b to → step to (shape l) ≡ fault
+off_viable : (content : List ℕ) (b : List Line) (l : Line) (a : List Line) (to : Phase) → lines content ≡ b ++ l ∷ a → Trail Phase.Tree b to → step to (shape l) ≡ None
     → Viable (b ++ l ∷ []) → ⊥
 off_viable content b l a to e x f v =
     let i : lines (join (b ++ l ∷ []) ++ v.behind) ≡ b ++ l ∷ lines v.behind =
     lines_behind content (b ++ l ∷ []) a v.behind (e ∙ sym (append_assoc b (l ∷ []) a)) v.ended ∙ append_assoc b (l ∷ []) (lines v.behind) in
-    let q : reads [] v.header v.message ≡ read at_tree 0 (b ++ l ∷ lines v.behind) =
-    sym (accepts (join (b ++ l ∷ []) ++ v.behind) v.header v.message v.good) ∙ ap (read at_tree 0) i in
+    let q : reads [] v.header v.message ≡ read Phase.Tree 0 (b ++ l ∷ lines v.behind) =
+    sym (accepts (join (b ++ l ∷ []) ++ v.behind) v.header v.message v.good) ∙ ap (read Phase.Tree 0) i in
     goes_off l (lines v.behind) x f 0 (subst Ok q tt)
 
 -- ---- how a reading ends in a refusal
 
 data Fate (to : Phase) (b : List Line) (n : ℕ) : List Line → ℕ → Type 0 where
   at_end : Fate to b n [] (counts b n)
-  at_line : {l : Line} {a : List Line} → step to (shape l) ≡ fault → Fate to b n (l ∷ a) (counts (b ++ l ∷ []) n - 1)
+  at_line : {l : Line} {a : List Line} → step to (shape l) ≡ None → Fate to b n (l ∷ a) (counts (b ++ l ∷ []) n - 1)
 
 record Fall (ph : Phase) (n : ℕ) (ls : List Line) (k : ℕ) : Type 0 where
   before : List Line
@@ -147,10 +150,10 @@ put_inv (continues t) (stops j) k e = e
 put_inv (names n t) (reads u hs m) k e = absurd (never k _ _ _ (sym e))
 put_inv (names n t) (stops j) k e = e
 
-falling : (ph : Phase) (l : Line) (ls : List Line) (n k : ℕ) (w : Turn) → step ph (shape l) ≡ w
+falling : (ph : Phase) (l : Line) (ls : List Line) (n k : ℕ) (w : Option Turn) → step ph (shape l) ≡ w
     → ((to : Phase) → read to (counted l n) ls ≡ stops k → Fall to (counted l n) ls k)
     → turned w (shape l) (counted l n) ls (λ (z : Phase). read z (counted l n) ls) ≡ stops k → Fall ph n (l ∷ ls) k
-falling ph l ls n k (on mid) d h e =
+falling ph l ls n k (Some (Turn.To mid)) d h e =
     let f = h mid (put_inv (shape l) (read mid (counted l n) ls) k e) in
     record {
       before = l ∷ f.before;
@@ -160,8 +163,8 @@ falling ph l ls n k (on mid) d h e =
       trail = further d f.trail;
       fate = later l f.fate;
     }
-falling ph l ls n k end d h e = absurd (never k _ _ _ (sym e))
-falling ph l ls n k fault d h e =
+falling ph l ls n k (Some Turn.End) d h e = absurd (never k _ _ _ (sym e))
+falling ph l ls n k None d h e =
     let q : counted l n - 1 ≡ k = number (counted l n - 1) k e in
     record { before = []; after = l ∷ ls; to = ph; splits = refl; trail = here; fate = subst (Fate ph [] n (l ∷ ls)) q (at_line d) }
   where
@@ -172,13 +175,13 @@ falls : (ls : List Line) (ph : Phase) (n k : ℕ) → read ph n ls ≡ stops k �
 falls [] ph n k e = let q : n ≡ k = cc in record { before = []; after = []; to = ph; splits = refl; trail = here; fate = subst (Fate ph [] n []) q at_end }
 falls (l ∷ ls) ph n k e = falling ph l ls n k (step ph (shape l)) refl (λ to q. falls ls to (counted l n) k q) e
 
-faulted : (content : List ℕ) (b a : List Line) (to : Phase) (k : ℕ) → lines content ≡ b ++ a → Trail at_tree b to → Fate to b 0 a k → Fault b a k
+faulted : (content : List ℕ) (b a : List Line) (to : Phase) (k : ℕ) → lines content ≡ b ++ a → Trail Phase.Tree b to → Fate to b 0 a k → Fault b a k
 faulted content b a to k e x at_end = place.Fault.end
 faulted content b a to k e x (at_line {l = l} {a = r} d) = place.Fault.line (off_viable content b l r to e x d)
 
-pub refuses : (content : List ℕ) (k : ℕ) → read at_tree 0 (lines content) ≡ stops k → Refusal content k
+pub refuses : (content : List ℕ) (k : ℕ) → read Phase.Tree 0 (lines content) ≡ stops k → Refusal content k
 refuses content k e =
-    let f = falls (lines content) at_tree 0 k e in
+    let f = falls (lines content) Phase.Tree 0 k e in
     record {
       none = λ h m g. never k [] h m (sym e ∙ accepts content h m g);
       before = f.before;
@@ -188,14 +191,14 @@ refuses content k e =
       fault = faulted content f.before f.after f.to k f.splits f.trail f.fate;
     }
 
-says : (content : List ℕ) (r : Reading) → read at_tree 0 (lines content) ≡ r → Says content (answer r)
+says : (content : List ℕ) (r : Reading) → read Phase.Tree 0 (lines content) ≡ r → Says content (answer r)
 says content (reads u hs m) e = place.Says.good (derives content 0 u hs m e)
 says content (stops k) e = place.Says.none (refuses content k e)
 
 -- the answer is what the grammar says of the content ..
 pub answer_says : (content : List ℕ) → Says content (commit content)
 unfolding commit
-answer_says content = says content (read at_tree 0 (lines content)) refl
+answer_says content = says content (read Phase.Tree 0 (lines content)) refl
 
 -- ---- .. and no other is
 

@@ -1,25 +1,32 @@
 -- What `header_line` and `commit_message` answer: document 02, K13, "Answer" and "Refusals".
-use Rattle.std.specs.Prelude.{true, false, List, [], ◌∷◌, ◌≡◌, ℕ, zero, suc, ◌+◌, length}
-use Rattle.rules.specs.Answers.{Said, says, Row, row, judged, too_long, part_of}
+use Rattle.std.specs.Prelude.{true, false, List, [], ◌∷◌, ◌≡◌, ℕ, zero, suc, ◌+◌, length, Option, Some, None, Result}
+use Rattle.rules.specs.Answers.{Said, says, said_by, Row, row, judged, too_long, part_of}
+use Rattle.rules.specs.declared.Part.{Part}
 use Rattle.commit.specs.Grammar.{HeaderLine, named, written, written_all}
 use Rattle.commit.specs.Place.{Answer, accepted, refused}
 use Rattle.commit.specs.Reader.{commit}
-use Rattle.commit.specs.declared.LineFound.{LineFound}
-use Rattle.commit.specs.declared.MessageFound.{MessageFound}
+use Rattle.commit.specs.declared.CommitError.{CommitError}
+use Rattle.commit.specs.declared.HeaderLine.{HeaderLine as LineParts}
 
 -- ---- the answers' numbers and values
 
--- the name from, to, the content from, to; the end has no values
-abbrev pub line_says : LineFound → Said
-line_says (LineFound.Line name content) = says 0 (name.start ∷ name.end ∷ content.start ∷ content.end ∷ [])
-line_says LineFound.End = says 0 []
-line_says LineFound.TooLong = says 1 []
-line_says (LineFound.BadHeader line) = says 13 (line ∷ [])
+abbrev pub commit_refused : CommitError → Said
+commit_refused CommitError.TooLong = says 1 []
+commit_refused (CommitError.BadHeader line) = says 13 (line ∷ [])
 
-abbrev pub message_says : MessageFound → Said
-message_says (MessageFound.Message message) = says 0 (message.start ∷ message.end ∷ [])
-message_says MessageFound.TooLong = says 1 []
-message_says (MessageFound.BadHeader line) = says 13 (line ∷ [])
+-- the name from, to, the content from, to; the end past the last line has no values
+abbrev pub line_values : Option LineParts → List ℕ
+line_values (Some l) = l.name.start ∷ l.name.end ∷ l.content.start ∷ l.content.end ∷ []
+line_values None = []
+
+abbrev pub line_says : Result (Option LineParts) CommitError → Said
+line_says = said_by line_values commit_refused
+
+abbrev pub message_values : Part → List ℕ
+message_values message = message.start ∷ message.end ∷ []
+
+abbrev pub message_says : Result Part CommitError → Said
+message_says = said_by message_values commit_refused
 
 -- ---- refusals
 

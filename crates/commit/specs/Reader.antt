@@ -1,11 +1,13 @@
 -- Computed: the content read line by line, by what a line's bytes are (its shape) and what may come next (the phase). The answer is
 -- what the grammar says of the content, and no other is (proofs/Refusals, answer_says and answer_only).
-use Rattle.std.specs.Prelude.{Bool, ◌&&◌, List, [], ◌∷◌, ◌++◌, ℕ, ◌+◌, ◌-◌, eqb, length, if◌then◌else◌}
+use Rattle.std.specs.Prelude.{Bool, ◌&&◌, List, [], ◌∷◌, ◌++◌, ℕ, ◌+◌, ◌-◌, eqb, length, Option, Some, None, if◌then◌else◌}
 use Rattle.rules.specs.Bytes.{bytes, LF, space}
 use Rattle.rules.specs.Lines.{Line, lines}
 use Rattle.rules.specs.Lists.{all, equal, join}
 use Rattle.commit.specs.Grammar.{four, hex_digit, HeaderLine, named, counted}
 use Rattle.commit.specs.Place.{Answer, accepted, refused}
+use Rattle.commit.specs.declared.Phase.{Phase}
+use Rattle.commit.specs.declared.Turn.{Turn}
 
 -- ---- a line
 
@@ -53,53 +55,40 @@ shape (c ∷ s) = if eqb c LF then on_lf s else if eqb c space then on_space (te
 
 -- ---- what may come next
 
--- the tree; a parent or the author, identifiers being so long; the committer; another line or the empty one; or a line that
--- continues too
-pub data Phase : Type 0 where
-  at_tree : Phase
-  at_parents : ℕ → Phase
-  at_committer : Phase
-  at_others : Phase
-  at_under : Phase
+-- what a line does in a phase: a turn, or none where no good header goes on
 
--- what a line does: the header goes on; the empty line, which ends it; no good header goes on
-pub data Turn : Type 0 where
-  on : Phase → Turn
-  end : Turn
-  fault : Turn
+abbrev pub empty_line : Phase → Option Turn
+empty_line Phase.Tree = None
+empty_line (Phase.Parents size) = None
+empty_line Phase.Committer = None
+empty_line Phase.Others = Some Turn.End
+empty_line Phase.Under = Some Turn.End
 
-abbrev pub empty_line : Phase → Turn
-empty_line at_tree = fault
-empty_line (at_parents size) = fault
-empty_line at_committer = fault
-empty_line at_others = end
-empty_line at_under = end
-
-abbrev pub spaced_line : Phase → Turn
-spaced_line at_tree = fault
-spaced_line (at_parents size) = fault
-spaced_line at_committer = fault
-spaced_line at_others = fault
-spaced_line at_under = on at_under
+abbrev pub spaced_line : Phase → Option Turn
+spaced_line Phase.Tree = None
+spaced_line (Phase.Parents size) = None
+spaced_line Phase.Committer = None
+spaced_line Phase.Others = None
+spaced_line Phase.Under = Some (Turn.To Phase.Under)
 
 unfoldable pub identifier : ℕ → List ℕ → Bool
 identifier size s = eqb (length s) size && all hex_digit s
 
-abbrev pub named_line : Phase → List ℕ → List ℕ → Turn
-named_line at_tree n t =
-    if equal n (bytes "tree") then (if identifier 40 t then on (at_parents 40) else if identifier 64 t then on (at_parents 64) else fault) else fault
-named_line (at_parents size) n t =
-    if equal n (bytes "parent") then (if identifier size t then on (at_parents size) else fault) else
-    if equal n (bytes "author") then on at_committer else fault
-named_line at_committer n t = if equal n (bytes "committer") then on at_others else fault
-named_line at_others n t = if four n then fault else on at_under
-named_line at_under n t = if four n then fault else on at_under
+abbrev pub named_line : Phase → List ℕ → List ℕ → Option Turn
+named_line Phase.Tree n t =
+    if equal n (bytes "tree") then (if identifier 40 t then Some (Turn.To (Phase.Parents 40)) else if identifier 64 t then Some (Turn.To (Phase.Parents 64)) else None) else None
+named_line (Phase.Parents size) n t =
+    if equal n (bytes "parent") then (if identifier size t then Some (Turn.To (Phase.Parents size)) else None) else
+    if equal n (bytes "author") then Some (Turn.To Phase.Committer) else None
+named_line Phase.Committer n t = if equal n (bytes "committer") then Some (Turn.To Phase.Others) else None
+named_line Phase.Others n t = if four n then None else Some (Turn.To Phase.Under)
+named_line Phase.Under n t = if four n then None else Some (Turn.To Phase.Under)
 
-abbrev pub step : Phase → Shape → Turn
+abbrev pub step : Phase → Shape → Option Turn
 step ph empty = empty_line ph
 step ph (continues t) = spaced_line ph
 step ph (names n t) = named_line ph n t
-step ph wrong = fault
+step ph wrong = None
 
 -- ---- the reading
 
@@ -117,10 +106,10 @@ put (continues t) (stops k) = stops k
 put (names n t) (reads under hs m) = reads [] (named n (t ++ under) ∷ hs) m
 put (names n t) (stops k) = stops k
 
-abbrev pub turned : Turn → Shape → ℕ → List Line → (Phase → Reading) → Reading
-turned (on ph) x n ls f = put x (f ph)
-turned end x n ls f = reads [] [] (join ls)
-turned fault x n ls f = stops (n - 1)
+abbrev pub turned : Option Turn → Shape → ℕ → List Line → (Phase → Reading) → Reading
+turned (Some (Turn.To ph)) x n ls f = put x (f ph)
+turned (Some Turn.End) x n ls f = reads [] [] (join ls)
+turned None x n ls f = stops (n - 1)
 
 -- n lines are counted before
 abbrev pub read : Phase → ℕ → List Line → Reading
@@ -134,7 +123,7 @@ answer (reads under hs m) = accepted hs m
 answer (stops k) = refused k
 
 unfoldable pub commit : List ℕ → Answer
-commit content = answer (read at_tree 0 (lines content))
+commit content = answer (read Phase.Tree 0 (lines content))
 
 -- ---- the judgement alone: how many lines the header has and where the message starts, or the refusal's number
 
@@ -143,10 +132,10 @@ pub data Verdict : Type 0 where
   bad : ℕ → Verdict
 
 -- after a line: n are counted before it and k with it; then comes the place where it ends
-abbrev pub turned_verdict : Turn → ℕ → ℕ → ℕ → (Phase → Verdict) → Verdict
-turned_verdict (on ph) n k to f = f ph
-turned_verdict end n k to f = good n to
-turned_verdict fault n k to f = bad (k - 1)
+abbrev pub turned_verdict : Option Turn → ℕ → ℕ → ℕ → (Phase → Verdict) → Verdict
+turned_verdict (Some (Turn.To ph)) n k to f = f ph
+turned_verdict (Some Turn.End) n k to f = good n to
+turned_verdict None n k to f = bad (k - 1)
 
 -- n lines are counted before the place
 abbrev pub judge : Phase → ℕ → ℕ → List Line → Verdict

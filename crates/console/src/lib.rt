@@ -3,7 +3,7 @@
 // fails counts as the end.
 #![tactic(auto)]
 
-ghost use Rattle.std.specs.Prelude.{◌≡◌, ◌≤◌, IsTrue, length, take, decimal};
+ghost use Rattle.std.specs.Prelude.{List, ℕ, ◌≡◌, ◌≤◌, ◌<◌, IfSome, IfNone, IsTrue, length, take, decimal};
 ghost use Rattle.std.specs.Io.KnownBytes.{Appends, Consumes};
 
 use std::env::FillError;
@@ -43,6 +43,21 @@ pub fn read_full<R: Read>(from: &mut R, buf: &mut [u8]) -> usize
     done
 }
 
+// Reads an input of at most `most` bytes to the front of `buf`; none where it is longer, for which `buf` has room. A read that fails counts as the
+// input's end.
+pub fn read_within<'a, R: Read>(from: &mut R, buf: &'a mut [u8], most: usize) -> Option<&'a [u8]>
+    requires { most < length buf.old }
+    ensures short { IfSome result (λ input. length input.now ≤ most) }
+    ensures long { IfNone result ((bytes : List ℕ) × Consumes (R.remaining from.old) (R.remaining from.new) bytes × (most < length bytes)) }
+    ensures bytes { IfSome result (λ input. Consumes (R.remaining from.old) (R.remaining from.new) input.now) }
+{
+    let len = read_full(from, buf);
+    if len > most {
+        return None;
+    }
+    Some(&buf[..len])
+}
+
 // Writes all the bytes, and answers whether they were written. Where not, some may have been.
 pub fn write_all<W: Write>(out: &mut W, bytes: &[u8]) -> bool
     ensures { IsTrue result → Appends (W.contents out.old) (W.contents out.new) bytes.now }
@@ -68,13 +83,13 @@ pub fn arg_count(rt: &impl Env) -> usize {
     usize::MAX
 }
 
-// Puts argument `i` at the front of `buf`, and answers its length; 0 where it is missing, or longer than `buf`.
-pub fn arg(rt: &impl Env, i: usize, buf: &mut [u8]) -> usize
-    ensures in_bounds { result ≤ length buf.new }
+// Reads argument `i` to the front of `buf`; nothing where it is missing, or longer than `buf`.
+pub fn arg<'a>(rt: &impl Env, i: usize, buf: &'a mut [u8]) -> &'a [u8]
+    ensures in_bounds { length result.now ≤ length buf.old }
 {
     match rt.arg(i, buf) {
-        Ok(len) => len,
-        Err(_) => 0,
+        Ok(len) => &buf[..len],
+        Err(_) => &[],
     }
 }
 
@@ -89,25 +104,22 @@ pub fn open_read<R: Files>(rt: &R, name: &[u8]) -> io::Result<R::File> {
 // Writes a line that says what failed and why: a name, a colon and the system's word for the error.
 pub fn fail<W: Write>(out: &mut W, what: &[u8], error: io::Error) {
     let mut text = [0u8; 256];
-    let len = error_text(&error, &mut text);
     write_all(out, what);
     write_all(out, b": ");
-    write_all(out, &text[..len]);
+    write_all(out, error_text(&error, &mut text));
     write_all(out, b"\n");
 }
 
-// Puts the system's word for an error at the front of `buf`, and answers its length. std writes the error's number behind it, in
-// brackets, which is left out.
-fn error_text(error: &io::Error, buf: &mut [u8; 256]) -> usize
-    ensures in_bounds { result ≤ length buf.new }
-{
+// Writes the system's word for an error to the front of `buf`. std writes the error's number after it, in brackets, which is left out.
+fn error_text<'a>(error: &io::Error, buf: &'a mut [u8; 256]) -> &'a [u8] {
     let buf_len = buf.len();
     let mut rest = &mut buf[..];
     let _ = write!(rest, "{error}");
     let len = buf_len.saturating_sub(rest.len());
-    match std::str::from_utf8(&buf[..len]) {
-        Ok(text) => text.find(" (os error ").unwrap_or(len),
-        Err(_) => len,
+    let said = &buf[..len];
+    match std::str::from_utf8(said) {
+        Ok(text) => &said[..text.find(" (os error ").unwrap_or(len)],
+        Err(_) => said,
     }
 }
 

@@ -7,7 +7,7 @@ use Prim.Native.Nat.{ℕ, ◌+◌, ◌-◌, ◌*◌, ◌≤◌, ◌<◌}
 use native.Mathlib.Numerals.{add-one}
 use native.Mathlib.Omega.{arith}
 use lib.Dec.{T}
-use lib.ListN.{length, drop, get_or, drop_of_length-le}
+use lib.ListN.{length, drop, get_or}
 use lib.Seq.{drop-cons}
 use Rattle.rules.specs.Lists.{all}
 use Rattle.rules.proofs.Lists.{and_left, and_right, is_true}
@@ -54,9 +54,6 @@ unfolding number_of
 half_start v a = record { within = omega arith; digits = a; whole = refl }
 
 module _ {v : List ℕ} {n i : ℕ} (h : Half v n i) where
-  pub half_end : length v ≤ i → n ≡ number_of v
-  half_end l = sym (ap (number_from n) (drop_of_length-le v l)) ∙ h.whole
-
   module _ (l : i < length v) where
     next : drop i v ≡ get_or v i 0 ∷ drop (i + 1) v
     next = rw (add-one i) (drop-cons v i 0 l)

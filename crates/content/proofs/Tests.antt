@@ -1,8 +1,8 @@
 -- The tests of a content as the code makes them, one after the other. Assumes nothing.
 use mathlib.Core.Bool.{true, false}
 use mathlib.Core.List.{List, [], ◌∷◌}
-use mathlib.Core.Path.{◌≡◌, refl, sym}
-use Prim.Native.Nat.{ℕ, ◌≤◌, ◌<◌}
+use mathlib.Core.Path.{◌≡◌, sym}
+use Prim.Native.Nat.{ℕ, ◌≤◌}
 use native.Mathlib.Omega.{arith}
 use lib.Dec.{T, T_not, not_T, eqb, eqb→eq, eqb_refl, leb, leb→le, le→leb}
 use lib.ListN.{length, get_or}
@@ -23,11 +23,8 @@ vehicle_parts v t =
       leb→le (length v) 6 (and_right (leb 1 (length v)) (leb (length v) 6) w),
     )
 
-pub vehicle_empty : (v : List ℕ) → length v < 1 → false ≡ good_vehicle v
-vehicle_empty v l = sym (is_false (good_vehicle v) (not_T (good_vehicle v) (λ t. omega (arith, (vehicle_parts v t).1))))
-
-pub vehicle_long : (v : List ℕ) → 6 < length v → false ≡ good_vehicle v
-vehicle_long v l = sym (is_false (good_vehicle v) (not_T (good_vehicle v) (λ t. omega (arith, (vehicle_parts v t).2))))
+pub vehicle_other : (v : List ℕ) → (1 ≤ length v → length v ≤ 6 → ⊥) → false ≡ good_vehicle v
+vehicle_other v n = sym (is_false (good_vehicle v) (not_T (good_vehicle v) (λ t. n (vehicle_parts v t).1 (vehicle_parts v t).2)))
 
 pub vehicle_digits : (v : List ℕ) → 1 ≤ length v → length v ≤ 6 → all digit v ≡ good_vehicle v
 unfolding good_vehicle
@@ -53,19 +50,16 @@ parts_records v d l = and_both (decimal v) (leb (number_of v) most_records) (par
 refused : (v : List ℕ) → (T (good_records v) → ⊥) → false ≡ good_records v
 refused v n = sym (is_false (good_records v) (not_T (good_records v) n))
 
-filled-length : (v : List ℕ) → length v < 1 → T (filled v) → ⊥
-filled-length [] l t = t
-filled-length (c ∷ v) l t = omega arith
+filled-length : (v : List ℕ) → T (filled v) → 1 ≤ length v
+filled-length [] t = absurd t
+filled-length (c ∷ v) t = omega arith
 
 length-filled : (v : List ℕ) → 1 ≤ length v → T (filled v)
 length-filled [] l = absurd (omega arith)
 length-filled (c ∷ v) l = tt
 
-pub records_empty : (v : List ℕ) → length v < 1 → false ≡ good_records v
-records_empty v l = refused v (λ t. filled-length v l (records_parts v t).0.has_digits)
-
-pub records_long : (v : List ℕ) → 7 < length v → false ≡ good_records v
-records_long v l = refused v (λ t. omega (arith, at_most_seven v t))
+pub records_other : (v : List ℕ) → (1 ≤ length v → length v ≤ 7 → ⊥) → false ≡ good_records v
+records_other v n = refused v (λ t. n (filled-length v (records_parts v t).0.has_digits) (at_most_seven v t))
 
 pub records_others : (v : List ℕ) → all digit v ≡ false → false ≡ good_records v
 records_others v a = refused v (λ t. rw a at (records_parts v t).0.all_digits)
@@ -81,26 +75,26 @@ records_one (c ∷ []) l a =
     (record { has_digits = tt; all_digits = t; without_needless_zero = tt })
     (le→leb (number_of (c ∷ [])) most_records (omega arith))))
 
-zero_first : (v : List ℕ) → 1 ≤ length v → (length v ≡ 1 → ⊥) → get_or v 0 0 ≡ 48 → T (no_needless_zero v) → ⊥
-zero_first [] l n z t = omega arith
-zero_first (c ∷ []) l n z t = n refl
-zero_first (c ∷ d ∷ v) l n z t = T_not (eqb c 48) t (rw z (eqb_refl 48))
+zero_first : (v : List ℕ) → 2 ≤ length v → get_or v 0 0 ≡ 48 → T (no_needless_zero v) → ⊥
+zero_first [] l z t = omega arith
+zero_first (c ∷ []) l z t = omega arith
+zero_first (c ∷ d ∷ v) l z t = T_not (eqb c 48) t (rw z (eqb_refl 48))
 
-pub records_zero : (v : List ℕ) → 1 ≤ length v → (length v ≡ 1 → ⊥) → get_or v 0 0 ≡ 48 → false ≡ good_records v
-records_zero v l n z = refused v (λ t. zero_first v l n z (records_parts v t).0.without_needless_zero)
+pub records_zero : (v : List ℕ) → 2 ≤ length v → get_or v 0 0 ≡ 48 → false ≡ good_records v
+records_zero v l z = refused v (λ t. zero_first v l z (records_parts v t).0.without_needless_zero)
 
 no_zero_first : (v : List ℕ) → (get_or v 0 0 ≡ 48 → ⊥) → T (no_needless_zero v)
 no_zero_first [] n = tt
 no_zero_first (c ∷ []) n = tt
 no_zero_first (c ∷ d ∷ v) n = not_T (eqb c 48) (λ e. n (eqb→eq c 48 e))
 
-pub records_number : (v : List ℕ) → 1 ≤ length v → all digit v ≡ true → (get_or v 0 0 ≡ 48 → ⊥) → leb (number_of v) 1_000_000 ≡ good_records v
+pub records_number : (v : List ℕ) → 2 ≤ length v → all digit v ≡ true → (get_or v 0 0 ≡ 48 → ⊥) → leb (number_of v) 1_000_000 ≡ good_records v
 records_number v l a n =
     same_test (leb (number_of v) most_records) (good_records v)
-    (λ m. parts_records v (record { has_digits = length-filled v l; all_digits = rw a tt; without_needless_zero = no_zero_first v n }) m)
+    (λ m. parts_records v (record { has_digits = length-filled v (omega arith); all_digits = rw a tt; without_needless_zero = no_zero_first v n }) m)
     (λ t. (records_parts v t).1)
 
 -- the tests in the order of the code
-pub ruleset vehicle_tests = (vehicle_empty, vehicle_long, vehicle_digits)
+pub ruleset vehicle_tests = (vehicle_digits, vehicle_other)
 
-pub ruleset records_tests = (records_empty, records_long, records_others, records_one, records_zero, records_number)
+pub ruleset records_tests = (records_others, records_one, records_zero, records_number, records_other)

@@ -7,43 +7,28 @@ ghost use Rattle.rules.specs.Lists.{all, equal};
 ghost use Rattle.closing.specs.Contents.{digit, number_of, good_vehicle, good_records, good_state, good};
 
 use closing::Field;
-use text::fixed::equals;
 
-// Whether a byte is an ASCII digit.
-fn is_digit(byte: u8) -> bool
-    ensures { result ≡ digit byte }
-{
-    byte >= b'0' && byte <= b'9'
-}
+// The highest count that a note may state.
+const MOST_RECORDS: usize = 1_000_000;
 
 // Whether all bytes are digits.
 fn all_digits(v: &[u8]) -> bool
     ensures { result ≡ all digit v.now }
 {
-    let mut i = 0;
-    while i < v.len() {
-        if !is_digit(v[i]) {
-            return false;
-        }
-        i += 1;
-    }
-    true
+    v.iter().all(|byte| byte.is_ascii_digit())
 }
 
 // The number that at most 7 digits write.
 pub fn number_of(v: &[u8]) -> usize
-    requires v_len_bound { length v.now ≤ 7 }
-    requires v_value { all digit v.now ≡ true }
+    requires few { length v.now ≤ 7 }
+    requires digits { all digit v.now ≡ true }
     ensures { result ≡ number_of v.now }
 {
-    let mut n: usize = 0;
-    let mut i = 0;
-    while i < v.len() {
-        let d = v[i] - b'0';
-        n = n * 10 + d as usize;
-        i += 1;
+    let mut number = 0;
+    for byte in v {
+        number = number * 10 + (*byte - b'0') as usize;
     }
-    n
+    number
 }
 
 // A vehicle: 1 to 6 digits.
@@ -51,13 +36,10 @@ pub fn number_of(v: &[u8]) -> usize
 fn is_vehicle(v: &[u8]) -> bool
     ensures { result ≡ good_vehicle v.now }
 {
-    if v.len() < 1 {
-        return false;
+    match v.len() {
+        1..=6 => all_digits(v),
+        _ => false,
     }
-    if v.len() > 6 {
-        return false;
-    }
-    all_digits(v)
 }
 
 // A count: a decimal up to 1,000,000 without needless zeros. Its length is judged before its number, which then does not overflow.
@@ -65,43 +47,30 @@ fn is_vehicle(v: &[u8]) -> bool
 fn is_records(v: &[u8]) -> bool
     ensures { result ≡ good_records v.now }
 {
-    if v.len() < 1 {
-        return false;
-    }
-    if v.len() > 7 {
-        return false;
-    }
     if !all_digits(v) {
         return false;
     }
-    if v.len() == 1 {
-        return true;
+    match v.len() {
+        1 => true,
+        2..=7 => v[0] != b'0' && number_of(v) <= MOST_RECORDS,
+        _ => false,
     }
-    if v[0] == b'0' {
-        return false;
-    }
-    number_of(v) <= 1_000_000
-}
-
-// Whether a content is the word, its case included.
-fn is_word(v: &[u8], word: &[u8]) -> bool
-    ensures { result ≡ equal v.now word.now }
-{
-    equals(v, word)
 }
 
 // Whether the state is complete.
+#[tactic(auto, using(crate::proofs::Std::bytes_equal))]
 pub fn is_complete(v: &[u8]) -> bool
     ensures { result ≡ equal v.now (bytes "complete") }
 {
-    is_word(v, b"complete")
+    v == b"complete".as_slice()
 }
 
 // A state: `complete` or `partial`.
+#[tactic(auto, using(crate::proofs::Std::bytes_equal), unfolding(closing::specs::Contents::good_state))]
 fn is_state(v: &[u8]) -> bool
     ensures { result ≡ good_state v.now }
 {
-    is_complete(v) || is_word(v, b"partial")
+    is_complete(v) || v == b"partial".as_slice()
 }
 
 // Whether a content is good for the field.

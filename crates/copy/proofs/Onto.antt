@@ -1,13 +1,14 @@
 -- Writing a list over another, from a place on. Assumes nothing.
 use mathlib.Core.List.{List, [], ◌∷◌, ◌++◌, append_assoc, append-nil}
-use mathlib.Core.Path.{◌≡◌, ap, ◌∙◌}
+use mathlib.Core.Path.{◌≡◌, refl, ap, ◌∙◌}
 use Prim.Native.Nat.{ℕ, suc, ◌+◌, ◌-◌, ◌≤◌, ◌<◌}
 use native.Mathlib.Nat.{zero-add, add-zero}
 use native.Mathlib.Numerals.{add-one}
 use native.Mathlib.Omega.{arith}
 use borrow.Rule.Slice.PartMut.{put_mid}
 use lib.ListN.{length, take, drop, set, length-append, length-drop, take-append-drop, drop_of_length-le}
-use lib.Seq.{paste, drop-append-add, drop-drop, drop-set-lt, length-take-le, take_at, take-length, take-suc-set}
+use lib.Seq.{paste, drop-append-add, drop-drop, drop-set-lt, length-take-le, take_at, take-suc-set}
+use Rattle.std.proofs.lemmas.List.Edits.{paste_all}
 use Rattle.rules.proofs.Parts.{rest}
 use Rattle.copy.specs.Onto.{onto}
 
@@ -43,8 +44,8 @@ onto-append i v vs d h =
     rw (front, behind, n) (simp append_assoc)
 
 -- a whole copy
-pub pasted : (d s : List ℕ) (at : ℕ) → paste d at s (length s) ≡ onto at s d
-pasted d s at = rw (take-length s) (append_assoc (take at d) s (drop (at + length s) d))
+pub pasted : {A : Type 0} (d s : List A) (at : ℕ) → paste d at s (length s) ≡ onto at s d
+pasted d s at = paste_all d at s (length s) refl
 
 -- what was written to the front of a tail, said of the whole
 pub front_written : {A : Type 0} (d w : List A) (at : ℕ) → take at d ++ (w ++ drop (length w) (drop at d)) ≡ onto at w d

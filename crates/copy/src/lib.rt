@@ -5,13 +5,9 @@ ghost use Rattle.std.specs.Prelude.{◌≡◌, ◌+◌, ◌≤◌, length};
 ghost use Rattle.std.proofs.Math.Seq.{paste};
 
 // Copies all of `src` into `out` from `at` on.
-pub fn copy_at(src: &[u8], out: &mut [u8], at: usize)
+pub fn copy_at<T: Copy>(src: &[T], out: &mut [T], at: usize)
     requires { at + length src.now ≤ length out.old }
     ensures { out.new ≡ paste out.old at src.now (length src.now) }
 {
-    let mut i = 0;
-    while i < src.len() {
-        out[at + i] = src[i];
-        i += 1;
-    }
+    out[at..at + src.len()].copy_from_slice(src);
 }

@@ -1,10 +1,10 @@
 -- Counting, one trailer and one message at a time. Assumes nothing.
-use Rattle.std.specs.Prelude.{if◌then◌else◌}
-use mathlib.Core.Bool.{Bool, true, false}
+use Rattle.std.specs.Prelude.{Some, if◌then◌else◌}
+use mathlib.Core.Bool.{Bool, true, false, ◌||◌}
 use mathlib.Core.List.{List, [], ◌∷◌}
 use mathlib.Core.Path.{◌≡◌, refl, sym, ap, ◌∙◌}
 use Prim.Native.Nat.{ℕ, zero, suc, ◌+◌, ◌-◌, ◌≤◌, ◌<◌}
-use native.Mathlib.Nat.{add_comm, sub-zero, zero-add}
+use native.Mathlib.Nat.{add_comm, add-zero, sub-zero, zero-add}
 use native.Mathlib.Numerals.{add-one}
 use native.Mathlib.Omega.{arith}
 use lib.Dec.{eqb}
@@ -17,12 +17,11 @@ use Rattle.rules.specs.Lists.{filled, run}
 use Rattle.rules.specs.Paragraph.{block_start, message_trailers}
 use Rattle.rules.specs.Title.{body, body_start}
 use Rattle.rules.specs.Trailer.{Trailer, end_of, token_of, trailer, trailer_line, walk, walk_from}
-use Rattle.trailer.proofs.Steps.{First, first_is, none_is}
+use Rattle.trailer.proofs.Steps.{First, first_is}
 use Rattle.rules.specs.declared.Places.{Places}
 use Rattle.trailer.specs.Walk.{next_of}
-use Rattle.trailer.specs.declared.walk.NextTrailer.{NextTrailer}
 use Rattle.counting.proofs.Figures.{figure_le, seven_sum}
-use Rattle.bundle.proofs.Judged.{next_offset, no_offset}
+use Rattle.bundle.proofs.Judged.{next_offset}
 use Rattle.bundle.specs.Bundle.{count_of, messages_in, offset, offsets, parts}
 use Rattle.counting.specs.Report.{counts_of, figure_of, number_of, plus, seven_of, sum, without, without_of}
 
@@ -36,21 +35,11 @@ plus_assoc (x ∷ c) (y ∷ d) (z ∷ e) =
     let h : x + (y + z) ≡ (x + y) + z = omega arith in
     rw (h, plus_assoc c d e)
 
-pub length-plus : (c d : List ℕ) → length c ≡ length d → length (plus c d) ≡ length c
-length-plus [] d e = refl
-length-plus (x ∷ c) [] e = absurd (omega arith)
-length-plus (x ∷ c) (y ∷ d) e = ap suc (length-plus c d (omega arith))
-
 pub sum-plus : (c d : List ℕ) → length c ≡ length d → sum (plus c d) ≡ sum c + sum d
 sum-plus [] [] e = omega arith
 sum-plus [] (y ∷ d) e = absurd (omega arith)
 sum-plus (x ∷ c) [] e = absurd (omega arith)
 sum-plus (x ∷ c) (y ∷ d) e = omega (arith, sum-plus c d (omega arith))
-
-pub at_sum : (c : List ℕ) (p : ℕ) → get_or c p 0 ≤ sum c
-at_sum [] p = omega arith
-at_sum (x ∷ c) zero = omega arith
-at_sum (x ∷ c) (suc p) = omega (arith, at_sum c p)
 
 pub sum_more : (c : List ℕ) (p : ℕ) → sum (set c p (get_or c p 0 + 1)) ≤ sum c + 1
 sum_more [] p = omega arith
@@ -84,20 +73,6 @@ seven_more c t ts =
     let p = figure_of (token_of t) in
     plus_more c (seven_of ts) p ∙ ap (plus c) (sym (seven_at p (figure_le (token_of t)) (number_of 0 ts) (number_of 1 ts) (number_of 2 ts) (number_of 3 ts) (number_of 4 ts) (number_of 5 ts) (number_of 6 ts)))
 
-abbrev Zeros : List ℕ → Type 0
-Zeros [] = Unit {0}
-Zeros (x ∷ xs) = (x ≡ 0) × Zeros xs
-
-plus_none : (c d : List ℕ) → length c ≡ length d → Zeros d → plus c d ≡ c
-plus_none [] d l z = refl
-plus_none (x ∷ c) [] l z = absurd (omega arith)
-plus_none (x ∷ c) (y ∷ d) l z =
-    let h : x + y ≡ x = omega (arith, z.0) in
-    rw (h, plus_none c d (omega arith) z.1)
-
-pub plus_zeros : (c : List ℕ) → length c ≡ 7 → plus c (0 ∷ 0 ∷ 0 ∷ 0 ∷ 0 ∷ 0 ∷ 0 ∷ []) ≡ c
-plus_zeros c e = plus_none c (0 ∷ 0 ∷ 0 ∷ 0 ∷ 0 ∷ 0 ∷ 0 ∷ []) e (refl, (refl, (refl, (refl, (refl, (refl, (refl, tt)))))))
-
 -- ---- a step of the walk
 
 -- a step from `at` on has found a trailer: its places are inside the message, and the walk is it and the walk from its end on
@@ -107,7 +82,7 @@ pub record Found (m : List ℕ) (at : ℕ) (p : Places) : Type 0 where
   pub token : take (p.token_end - p.start) (drop p.start m) ≡ token_of found
   pub list : walk_from m at ≡ found ∷ walk_from m p.end
 
-module _ (m : List ℕ) (at : ℕ) {p : Places} (q : next_of (walk_from m at) ≡ NextTrailer.Trailer p) where
+module _ (m : List ℕ) (at : ℕ) {p : Places} (q : next_of (walk_from m at) ≡ Some p) where
   first : First (walk_from m at) p
   first = first_is (walk_from m at) q
 
@@ -125,38 +100,29 @@ module _ (m : List ℕ) (at : ℕ) {p : Places} (q : next_of (walk_from m at) �
         list = cc (first.walked, end, walk_step m at t first.later first.walked);
       }
 
-pub step_none : (m : List ℕ) (at : ℕ) → next_of (walk_from m at) ≡ NextTrailer.End → walk_from m at ≡ []
-step_none m at q = none_is (walk_from m at) q
-
 pub count_turn : (m so : List ℕ) {from k : ℕ} {p : Places} (f : Found m from p) → k ≡ figure_of (take (p.token_end - p.start) (drop p.start m)) → plus (set so k (get_or so k 0 + 1)) (seven_of (walk_from m p.end)) ≡ plus so (seven_of (walk_from m from))
 count_turn m so {from} {k} {p} f q =
     let r : k ≡ figure_of (token_of f.found) = q ∙ ap figure_of f.token in
     rw (r, f.list) (seven_more so f.found (walk_from m p.end))
 
--- "a seven-element array of counts by value through the messages": what the walk of one message has counted, at `from`
-pub record Walked (m c₀ c : List ℕ) (at from found : ℕ) : Type 0 where
+-- what the walk of one message has counted, at `from`
+pub record Walked (m c₀ c : List ℕ) (at from : ℕ) (found : Bool) : Type 0 where
   pub inside : from ≤ length m
-  pub seven : length c ≡ 7
   pub counts : plus c (seven_of (walk_from m from)) ≡ plus c₀ (seven_of (walk_from m at))
-  pub trailers : found + length (walk_from m from) ≡ length (walk_from m at)
-  pub few_counted : sum c ≤ sum c₀ + from
-  pub few_found : found ≤ from
+  pub some : (found || filled (walk_from m from)) ≡ filled (walk_from m at)
+  pub few : sum c ≤ sum c₀ + from
+
+pub or_some : (b c : Bool) → (b || true) ≡ c → true ≡ c
+or_some true c e = e
+or_some false c e = e
 
 -- ---- one message more
 
-none_length : (ts : List Trailer) → length ts ≡ 0 → ◌≡◌ {A = ℕ} (if filled ts then 0 else 1) 1
-none_length [] e = refl
-none_length (t ∷ ts) e = absurd (omega arith)
+pub without_none : (m : List ℕ) (w : ℕ) → filled (message_trailers m) ≡ false → w + 1 ≡ w + without m
+without_none m w e = rw e
 
-some_length : (ts : List Trailer) → (length ts ≡ 0 → ⊥) → ◌≡◌ {A = ℕ} (if filled ts then 0 else 1) 0
-some_length [] e = absurd (e refl)
-some_length (t ∷ ts) e = refl
-
-pub without_none : (m : List ℕ) (w : ℕ) → length (message_trailers m) ≡ 0 → w + 1 ≡ w + without m
-without_none m w e = omega (arith, none_length (message_trailers m) e)
-
-pub without_some : (m : List ℕ) (w : ℕ) → (length (message_trailers m) ≡ 0 → ⊥) → w ≡ w + without m
-without_some m w e = omega (arith, some_length (message_trailers m) e)
+pub without_some : (m : List ℕ) (w : ℕ) → filled (message_trailers m) ≡ true → w ≡ w + without m
+without_some m w e = rw e (sym (add-zero w))
 
 -- no more trailers than bytes
 walk_few : (at : ℕ) (ls : List Line) → length (walk at ls) ≤ length ls
@@ -188,8 +154,6 @@ messages_from b n k = parts b (offset b k) (offsets b (suc k) (n - k))
 
 -- the same through the messages of a bundle, at message k of n
 pub record Reported (b c : List ℕ) (n k without : ℕ) : Type 0 where
-  pub inside : k ≤ n
-  pub seven : length c ≡ 7
   pub counts : plus c (counts_of (messages_from b n k)) ≡ counts_of (messages_in b)
   pub none : without + without_of (messages_from b n k) ≡ without_of (messages_in b)
   pub few_counted : sum c ≤ offset b k
@@ -201,9 +165,6 @@ from_first b n e = rw (sub-zero n, e)
 
 pub from_next : (b : List ℕ) (n k s e : ℕ) → k < n → s ≡ offset b k → e ≡ offset b (suc k) → messages_from b n k ≡ take (e - s) (drop s b) ∷ messages_from b n (k + 1)
 from_next b n k s e h p q = rw (next_offset b n k h, add-one k, p, q)
-
-pub from_last : (b : List ℕ) (n k : ℕ) → n ≤ k → messages_from b n k ≡ []
-from_last b n k h = rw (no_offset b n k h)
 
 pub counts_turn : (c m : List ℕ) (ms : List (List ℕ)) → plus (plus c (seven_of (message_trailers m))) (counts_of ms) ≡ plus c (counts_of (m ∷ ms))
 counts_turn c m ms = sym (plus_assoc c (seven_of (message_trailers m)) (counts_of ms))

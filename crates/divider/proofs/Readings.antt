@@ -4,16 +4,15 @@ use Rattle.std.specs.Prelude.{if◌then◌else◌}
 use mathlib.Core.Bool.{Bool, true, false}
 use mathlib.Core.List.{List, [], ◌∷◌}
 use mathlib.Core.Path.{◌≡◌, refl, sym, ap, ◌∙◌}
-use Prim.Native.Nat.{ℕ, zero, suc, ◌≤◌}
+use Prim.Native.Nat.{ℕ, ◌≤◌}
 use native.Mathlib.Omega.{arith}
 use borrow.Author.Tests.{le-ltb, ltb-false}
 use lib.ListN.{length, take}
 use lib.Seq.{length-take-le, take_all}
-use Rattle.rules.specs.Answers.{Said, says, limit, over_limit}
-use Rattle.rules.proofs.Answers.{Decides, decides}
+use Rattle.rules.specs.Answers.{limit, over, over_limit}
+use Rattle.rules.proofs.Answers.{Decides, said_decides}
 use Rattle.divider.specs.Divider.{Cut, cut}
 use Rattle.divider.specs.Readings.{in_either, end_found_says, read}
-use Rattle.divider.specs.declared.EndFound.{EndFound}
 use Rattle.divider.specs.declared.Reading.{Reading}
 use Rattle.divider.proofs.Cut.{cut_only, cut_taken, cut_within}
 
@@ -71,14 +70,9 @@ patch_unread refusal rule {one} {two} c d e f =
 
 -- ---- an answer of `message_end` is told by its number and its values
 
-abbrev end_found : Said → EndFound
-end_found (says zero []) = EndFound.At 0
-end_found (says zero (end ∷ rest)) = EndFound.At end
-end_found (says (suc n) values) = EndFound.TooLong
-
-end_back : (a : EndFound) → end_found (end_found_says a) ≡ a
-end_back (EndFound.At end) = refl
-end_back EndFound.TooLong = refl
+abbrev end_of : List ℕ → ℕ
+end_of [] = 0
+end_of (end ∷ rest) = end
 
 pub end_decides : Decides end_found_says
-end_decides = decides end_found_says end_found end_back
+end_decides = said_decides (λ end. end ∷ []) over end_of (λ n values. record {}) (λ end. refl) (λ e. refl)

@@ -1,10 +1,15 @@
 -- What a call that reads a whole message answers in either reading: document 02, K7. "Every answer equals the old reading of the message
 -- so cut, shown once for all calls that read a whole message; refusal 1 still judges the message uncut".
-use Rattle.std.specs.Prelude.{List, [], ◌∷◌, ℕ, length, if◌then◌else◌}
-use Rattle.rules.specs.Answers.{Said, says, over_limit}
+use Rattle.std.specs.Prelude.{List, [], ◌∷◌, ℕ, get_or, length, Result, Ok, Err, if◌then◌else◌}
+use Rattle.rules.specs.Answers.{Said, says, over, over_limit, said_by}
+use Rattle.rules.specs.declared.TooLong.{TooLong}
 use Rattle.divider.specs.Divider.{cut}
-use Rattle.divider.specs.declared.EndFound.{EndFound}
+use Rattle.divider.specs.declared.NoReading.{NoReading}
 use Rattle.divider.specs.declared.Reading.{Reading}
+
+-- a reading by its number: 0 is the whole message, 1 the message above its first divider, and no other number is a reading's
+abbrev pub reading_of : ℕ → Result Reading NoReading
+reading_of number = get_or (Ok Reading.Whole ∷ Ok Reading.AboveDivider ∷ []) number (Err (record {}))
 
 -- the message in a reading. "The first reading stays as the crate has it"
 abbrev pub read : Reading → List ℕ → List ℕ
@@ -24,9 +29,8 @@ left_in reading leaves message lent = in_either lent reading (λ (s : List ℕ).
 
 -- ---- `message_end`: where the message ends
 
-abbrev pub end_found_says : EndFound → Said
-end_found_says (EndFound.At end) = says 0 (end ∷ [])
-end_found_says EndFound.TooLong = says 1 []
+abbrev pub end_found_says : Result ℕ TooLong → Said
+end_found_says = said_by (λ end. end ∷ []) over
 
 abbrev pub end_says : List ℕ → Said
 end_says message = says 0 (length message ∷ [])

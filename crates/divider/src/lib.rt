@@ -3,24 +3,36 @@
 
 ghost use Rattle.std.specs.Prelude.{◌≡◌, length};
 ghost use Rattle.divider.specs.Divider.{cut, divider};
-ghost use Rattle.divider.specs.Readings.{end_answer, end_found_says, read};
+ghost use Rattle.divider.specs.Readings.{end_answer, end_found_says, read, reading_of};
 
-use rules::LIMIT;
+use rules::{TooLong, within_limit};
 use text::fixed::starts_with;
 use text::line::{line_len, trim_line_ending};
 
 // How a message is read: whole, as the original reads it, or up to its first divider.
-#[derive(Drop)]
+#[derive(Clone, Copy, Debug, PartialEq, Eq)]
 pub enum Reading {
     Whole,
     AboveDivider,
 }
 
-// Of `message_end`.
-#[derive(Drop)]
-pub enum EndFound {
-    At(usize),
-    TooLong,
+// A number that is no reading's.
+#[derive(Clone, Copy, Debug, PartialEq, Eq)]
+pub struct NoReading;
+
+// A reading by its number.
+impl TryFrom<u32> for Reading {
+    type Error = NoReading;
+
+    ghost try_from_gives = { λ number r. r ≡ reading_of number };
+
+    fn try_from(number: u32) -> Result<Reading, NoReading> {
+        match number {
+            0 => Ok(Reading::Whole),
+            1 => Ok(Reading::AboveDivider),
+            _ => Err(NoReading),
+        }
+    }
 }
 
 // Whether a line is a divider: its text is three hyphens, or they and a space begin it. Few lines begin with them, and only
@@ -28,15 +40,7 @@ pub enum EndFound {
 pub fn is_divider(line: &[u8]) -> bool
     ensures { result ≡ divider line.now }
 {
-    if !starts_with(line, b"---") {
-        return false;
-    }
-    let text = trim_line_ending(line);
-    let len = text.len;
-    if len == 3 {
-        return true;
-    }
-    line[3] == b' '
+    starts_with(line, b"---") && (trim_line_ending(line).len == 3 || line[3] == b' ')
 }
 
 // Where the first divider of a message starts; its length where it has none.
@@ -65,11 +69,9 @@ pub fn end_in(message: &[u8], reading: Reading) -> usize
 }
 
 // Where a message ends. Whoever walks its trailers by steps hands on the message up to there.
-pub fn message_end(message: &[u8], reading: Reading) -> EndFound
+pub fn message_end(message: &[u8], reading: Reading) -> Result<usize, TooLong>
     ensures { end_found_says result ≡ end_answer reading message.now }
 {
-    if message.len() > LIMIT {
-        return EndFound::TooLong;
-    }
-    EndFound::At(end_in(message, reading))
+    within_limit(message)?;
+    Ok(end_in(message, reading))
 }

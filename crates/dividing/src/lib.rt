@@ -3,7 +3,7 @@
 
 ghost use Rattle.std.specs.Prelude.{◌≤◌, length};
 
-use console::{large_buffer, print_decimal, read_full, write_all};
+use console::{large_buffer, print_decimal, read_within, write_all};
 use divider::{Reading, end_in};
 use printing::print_listing;
 use std::io::{Read, Write};
@@ -13,12 +13,12 @@ use text::line::{line_len, trim_line_ending};
 // the patch with it, only `too long`. A read that fails counts as the message's end.
 pub fn list_above_divider<R: Read, W: Write>(from: &mut R, out: &mut W) {
     let mut space = large_buffer();
-    let len = read_full(from, &mut space);
-    if len > 32_768 {
-        write_all(out, b"too long\n");
-        return;
+    match read_within(from, &mut space, 32_768) {
+        Some(message) => print_above_divider(out, message),
+        None => {
+            write_all(out, b"too long\n");
+        }
     }
-    print_above_divider(out, &space[..len]);
 }
 
 // Prints the listing of what stands above a message's first divider.
@@ -44,8 +44,7 @@ pub fn print_divider<W: Write>(out: &mut W, message: &[u8]) {
 // Prints the text of the first line.
 fn print_text<W: Write>(out: &mut W, lines: &[u8]) {
     let end = line_len(lines);
-    let text = trim_line_ending(&lines[..end]);
-    let len = text.len;
+    let len = trim_line_ending(&lines[..end]).len;
     write_all(out, &lines[..len]);
     write_all(out, b"\n");
 }

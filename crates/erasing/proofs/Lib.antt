@@ -1,4 +1,3 @@
 -- When the calls say yes, and what cannot make them; what carries the proofs of the code; the worked examples.
-pub mod Erase
 pub mod Readings
 pub mod Examples

@@ -1,9 +1,9 @@
 -- The worked examples of K10, and further ones, as rows of a single table. One theorem holds of all of them (proofs/Examples, cases).
 use Rattle.std.specs.Prelude.{Bool, true, false, List, [], ◌∷◌, ℕ}
 use Prim.Native.String.{String}
-use Rattle.rules.specs.Answers.{Said, says}
+use Rattle.rules.specs.Answers.{Said, says, flag}
 use Rattle.rules.specs.Bytes.{bytes}
-use Rattle.closing.specs.Answers.{erase_answer, flag, note_answer, refusal_says}
+use Rattle.closing.specs.Answers.{erase_answer, note_answer, refusal_says}
 use Rattle.closing.specs.declared.Fault.{Fault}
 use Rattle.closing.specs.declared.Field.{Field}
 use Rattle.divider.specs.Readings.{in_reading}

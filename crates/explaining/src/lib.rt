@@ -3,25 +3,26 @@
 // are counted in it, lines in the message.
 #![tactic(auto)]
 
-ghost use Rattle.std.specs.Prelude.{◌≡◌, ◌*◌, ◌^◌, ◌<◌, ◌≤◌, length};
-ghost use Rattle.explaining.specs.Kinds.{forgives, kind_of, kind_of_indented};
+ghost use Rattle.std.specs.Prelude.{◌≡◌, ◌+◌, ◌*◌, ◌^◌, ◌<◌, ◌≤◌, length};
+ghost use Rattle.explaining.specs.Kinds.{forgives, kind_of};
 ghost use Rattle.explaining.specs.Verdicts.{verdict_of};
 
-use block::{NextBlock, next_block_from};
-use console::{large_buffer, print_decimal, read_full, write_all};
+use block::next_block_from;
+use console::{large_buffer, read_within, write_all};
 use dividing::print_divider;
 use paragraph::{
-    accepts_as_trailer_block, is_recognized_prefix, last_paragraph, trailer_block_start,
+    Scan, accepts_as_trailer_block, is_recognized_prefix, last_paragraph, trailer_block_start,
 };
 use rules::Ending;
 use signers::print_trailers;
+use std::fmt;
 use std::io::{Read, Write};
 use text::line::{is_blank_line, is_indented, line_len, trim_line_ending};
 use title::title_and_body;
-use trailer::line::{TrailerLine, parse_trailer_line};
+use trailer::line::parse_trailer_line;
 
 // What a line of the last paragraph is.
-#[derive(Clone, Copy)]
+#[derive(Clone, Copy, Debug, PartialEq, Eq)]
 pub enum LineKind {
     Recognised,
     Trailer,
@@ -30,8 +31,20 @@ pub enum LineKind {
     Other,
 }
 
+impl fmt::Display for LineKind {
+    fn fmt<W: fmt::Write>(&self, f: &mut fmt::Formatter<W>) -> fmt::Result {
+        f.pad(match self {
+            LineKind::Recognised => "recognised",
+            LineKind::Trailer => "trailer line",
+            LineKind::Forgiven => "forgiven",
+            LineKind::NotForgiven => "not forgiven",
+            LineKind::Other => "other",
+        })
+    }
+}
+
 // By which rule a paragraph is a block, or why it is none.
-#[derive(Drop)]
+#[derive(Clone, Copy, Debug, PartialEq, Eq)]
 pub enum Verdict {
     AllTrailers,
     EnoughTrailers,
@@ -40,41 +53,43 @@ pub enum Verdict {
     NoLine,
 }
 
+impl fmt::Display for Verdict {
+    fn fmt<W: fmt::Write>(&self, f: &mut fmt::Formatter<W>) -> fmt::Result {
+        f.write_str(match self {
+            Verdict::AllTrailers => "a block: t > 0 and n = 0",
+            Verdict::EnoughTrailers => "a block: one is recognised and 3t >= n",
+            Verdict::TooManyOthers => "no block: one is recognised, but 3t < n",
+            Verdict::NoneRecognised => "no block: n > 0, and none is recognised",
+            Verdict::NoLine => "no block: there is no line",
+        })
+    }
+}
+
 // Reads a message from `from` and prints its reading; where it has more than 32,768 bytes, only `too long`.
 pub fn explain<R: Read, W: Write>(from: &mut R, out: &mut W) {
     let mut space = large_buffer();
-    let len = read_full(from, &mut space);
-    if len > 32_768 {
-        print(out, b"too long\n");
-    } else {
-        print_reading(out, &space[..len]);
+    match read_within(from, &mut space, 32_768) {
+        Some(message) => print_reading(out, message),
+        None => {
+            write_all(out, b"too long\n");
+        }
     }
 }
 
 // The kind of a line that is not blank; `below` says whether it stands under a line that forgives it if it is indented.
+#[tactic(auto, using(trailer::proofs::Parsed::parsed_told))]
 fn kind_of(line: &[u8], below: bool) -> LineKind
     ensures { result ≡ kind_of line.now below }
 {
     if is_recognized_prefix(line) {
         return LineKind::Recognised;
     }
-    if let TrailerLine::At {
-        token_end: _,
-        value_start: _,
-    } = parse_trailer_line(line)
-    {
+    if parse_trailer_line(line).is_some() {
         return LineKind::Trailer;
     }
     if !is_indented(line) {
         return LineKind::Other;
     }
-    kind_of_indented(below)
-}
-
-// The kind of an indented line, which is neither recognised nor a trailer line.
-fn kind_of_indented(below: bool) -> LineKind
-    ensures { result ≡ kind_of_indented below }
-{
     if !below {
         return LineKind::NotForgiven;
     }
@@ -85,13 +100,10 @@ fn kind_of_indented(below: bool) -> LineKind
 fn is_forgiving(kind: LineKind) -> bool
     ensures { result ≡ forgives kind }
 {
-    match kind {
-        LineKind::Recognised => true,
-        LineKind::Trailer => true,
-        LineKind::Forgiven => true,
-        LineKind::NotForgiven => false,
-        LineKind::Other => false,
-    }
+    matches!(
+        kind,
+        LineKind::Recognised | LineKind::Trailer | LineKind::Forgiven
+    )
 }
 
 // Prints the reading of a message.
@@ -101,16 +113,14 @@ fn print_reading<W: Write>(out: &mut W, message: &[u8])
     print_divider(out, message);
     let places = title_and_body(message);
     let body_start = places.body_start;
-    print_title_and_body(out, places.title_end, body_start, message.len());
+    let _ = writeln!(out, "title: bytes 0 to {}", places.title_end);
+    let _ = writeln!(
+        out,
+        "body: bytes {body_start} to {}, counted anew from here",
+        message.len()
+    );
     print_body(out, &message[body_start..]);
     print_trailers(out, message);
-}
-
-// Prints where the title and the body of a message stand that has `len` bytes.
-fn print_title_and_body<W: Write>(out: &mut W, title_end: usize, body_start: usize, len: usize) {
-    print_number(out, b"title: bytes 0 to ", title_end, b"\n");
-    print_number(out, b"body: bytes ", body_start, b" to ");
-    print_number(out, b"", len, b", counted anew from here\n");
 }
 
 // Prints the reading of a body.
@@ -118,83 +128,60 @@ fn print_body<W: Write>(out: &mut W, body: &[u8])
     requires { length body.now ≤ 32768 }
 {
     let paragraph = last_paragraph(body);
-    let scan = paragraph.scan;
-    print_paragraph(out, body, paragraph.start);
-    print_counts(
-        out,
-        scan.trailer_lines,
-        scan.non_trailer_lines + scan.possible_continuation_lines,
-        scan.recognized_prefix,
-    );
+    let _ = writeln!(out, "last paragraph: from byte {} on", paragraph.start);
+    print_paragraph(out, &body[paragraph.start..]);
+    print_counts(out, paragraph.scan);
     let start = trailer_block_start(body);
-    print_start(out, start);
+    let _ = writeln!(out, "start: {start}");
     print_blocks(out, body, start);
 }
 
-// Prints the lines of the last paragraph, which starts at `start`, each behind its kind.
-fn print_paragraph<W: Write>(out: &mut W, body: &[u8], start: usize)
-    requires { start ≤ length body.now }
-{
-    print_number(out, b"last paragraph: from byte ", start, b" on\n");
-    let mut at = start;
+// Prints the lines of the paragraph at the front, each after its kind.
+#[tactic(auto, using(text::proofs::Lines::first_some, text::proofs::Lines::first_within))]
+fn print_paragraph<W: Write>(out: &mut W, lines: &[u8]) {
+    let mut ahead = lines;
     let mut below = false;
-    while at < body.len() {
-        let end = at + line_len(&body[at..]);
-        let line = &body[at..end];
+    while !ahead.is_empty() {
+        let (line, rest) = ahead.split_at(line_len(ahead));
         if is_blank_line(line) {
             return;
         }
         let kind = kind_of(line, below);
         print_line(out, kind, line);
         below = is_forgiving(kind);
-        at = end;
+        ahead = rest;
     }
 }
 
-// Prints a line's text behind its kind, and how it ended where that is not LF.
+// Prints a line's text after its kind, and how it ended where that is not LF.
 fn print_line<W: Write>(out: &mut W, kind: LineKind, line: &[u8]) {
-    print_kind(out, kind);
     let text = trim_line_ending(line);
-    let len = text.len;
-    let ending = text.ending;
-    print(out, &line[..len]);
-    print_ending(out, ending);
+    let _ = write!(out, "  {kind:12} |");
+    write_all(out, &line[..text.len]);
+    write_all(out, shown(text.ending));
 }
 
-// Prints how a line ended, and ends the printed one.
-fn print_ending<W: Write>(out: &mut W, ending: Ending) {
+// What ends the printed line of one that ended so.
+fn shown(ending: Ending) -> &'static [u8] {
     match ending {
-        Ending::Lf => print(out, b"\n"),
-        Ending::CrLf => print(out, b"  (CR LF)\n"),
-        Ending::Cr => print(out, b"  (CR)\n"),
-        Ending::None => print(out, b"  (no line end)\n"),
-    }
-}
-
-// Prints the kind of a line.
-fn print_kind<W: Write>(out: &mut W, kind: LineKind) {
-    match kind {
-        LineKind::Recognised => print(out, b"  recognised   |"),
-        LineKind::Trailer => print(out, b"  trailer line |"),
-        LineKind::Forgiven => print(out, b"  forgiven     |"),
-        LineKind::NotForgiven => print(out, b"  not forgiven |"),
-        LineKind::Other => print(out, b"  other        |"),
+        Ending::Lf => b"\n",
+        Ending::CrLf => b"  (CR LF)\n",
+        Ending::Cr => b"  (CR)\n",
+        Ending::None => b"  (no line end)\n",
     }
 }
 
 // Prints t, n, whether a line is recognised, and which rule accepts the paragraph as a block, or why none does.
-fn print_counts<W: Write>(out: &mut W, t: usize, n: usize, recognised: bool)
-    requires { 3 * t < 2 ^ 64 }
+fn print_counts<W: Write>(out: &mut W, scan: Scan)
+    requires { (3 * scan.trailer_lines < 2 ^ 64) × (scan.non_trailer_lines + scan.possible_continuation_lines < 2 ^ 64) }
 {
-    print_number(out, b"t = ", t, b"");
-    print_number(out, b", n = ", n, b"");
-    if recognised {
-        print(out, b", with a sign-off or cherry-pick line\n");
-    } else {
-        print(out, b", no sign-off or cherry-pick line\n");
-    }
+    let t = scan.trailer_lines;
+    let n = scan.non_trailer_lines + scan.possible_continuation_lines;
+    let recognised = scan.recognized_prefix;
+    let has = if recognised { "with a" } else { "no" };
+    let _ = writeln!(out, "t = {t}, n = {n}, {has} sign-off or cherry-pick line");
     let verdict = verdict_of(t, n, recognised);
-    print_verdict(out, verdict);
+    let _ = writeln!(out, "{verdict}");
 }
 
 // By which rule a paragraph is a block, or why it is none. Without a recognised line, only the first rule can accept it.
@@ -217,50 +204,19 @@ fn verdict_of(t: usize, n: usize, recognised: bool) -> Verdict
     Verdict::NoLine
 }
 
-// Prints by which rule the paragraph is accepted or not.
-fn print_verdict<W: Write>(out: &mut W, verdict: Verdict) {
-    match verdict {
-        Verdict::AllTrailers => print(out, b"a block: t > 0 and n = 0\n"),
-        Verdict::EnoughTrailers => print(out, b"a block: one is recognised and 3t >= n\n"),
-        Verdict::TooManyOthers => print(out, b"no block: one is recognised, but 3t < n\n"),
-        Verdict::NoneRecognised => print(out, b"no block: n > 0, and none is recognised\n"),
-        Verdict::NoLine => print(out, b"no block: there is no line\n"),
-    }
-}
-
-// Prints where the trailer block starts.
-fn print_start<W: Write>(out: &mut W, start: usize) {
-    print_number(out, b"start: ", start, b"\n");
-}
-
-// Prints the blocks of a body whose trailer block starts at `start`.
+// Prints the blocks of a body whose trailer block starts at `start`: where each starts, where its message ends and where its trailers do.
 fn print_blocks<W: Write>(out: &mut W, body: &[u8], start: usize)
     requires { start ≤ length body.now }
 {
     let mut at = 0;
     let mut from = start;
-    while let NextBlock::Block { message_end, end } = next_block_from(body, at, from) {
-        print_block(out, at, message_end, end);
-        at = end;
-        from = end;
+    while let Some(block) = next_block_from(body, at, from) {
+        let _ = writeln!(
+            out,
+            "block: message {at} to {}, trailers to {}",
+            block.message_end, block.end
+        );
+        at = block.end;
+        from = block.end;
     }
-}
-
-// Prints where a block starts, where its message ends and where its trailers do.
-fn print_block<W: Write>(out: &mut W, start: usize, message_end: usize, end: usize) {
-    print_number(out, b"block: message ", start, b" to ");
-    print_number(out, b"", message_end, b", trailers to ");
-    print_number(out, b"", end, b"\n");
-}
-
-// Prints a number between two texts.
-fn print_number<W: Write>(out: &mut W, before: &[u8], n: usize, after: &[u8]) {
-    print(out, before);
-    print_decimal(out, n as u64);
-    print(out, after);
-}
-
-// Prints bytes.
-fn print<W: Write>(out: &mut W, bytes: &[u8]) {
-    write_all(out, bytes);
 }

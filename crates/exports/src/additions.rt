@@ -5,7 +5,7 @@ ghost use Rattle.numbers.specs.Numbers.{buffer_of, code_of, result_of};
 
 use crate::SHORT_RESULT;
 use adding::add_trailer;
-use answers::additions::put_added;
+use answers::Answer;
 use numbers::RESULT_LEN;
 
 // Writes the message with one trailer more.
@@ -24,5 +24,5 @@ pub extern "C" fn sluicepod_add_trailer(
     if res.len() < RESULT_LEN {
         return SHORT_RESULT;
     }
-    put_added(add_trailer(message, token, value, out), res)
+    add_trailer(message, token, value, out).put(res)
 }

@@ -6,7 +6,7 @@ ghost use Rattle.counting.specs.Answers.{report_answer};
 ghost use Rattle.numbers.specs.Numbers.{buffer_of, code_of, result_of};
 
 use crate::SHORT_RESULT;
-use answers::bundles::{put_counted, put_message, put_report, put_written};
+use answers::Answer;
 use bundle::{bundle_count, bundle_message};
 use bundling::write_bundle;
 use counting::bundle_report;
@@ -27,7 +27,7 @@ pub extern "C" fn sluicepod_write_bundle(
     if res.len() < RESULT_LEN {
         return SHORT_RESULT;
     }
-    put_written(write_bundle(input, ranges, out), res)
+    write_bundle(input, ranges, out).put(res)
 }
 
 // The number of messages of a bundle.
@@ -39,7 +39,7 @@ pub extern "C" fn sluicepod_bundle_count(bundle: &[u8], res: &mut [usize]) -> u3
     if res.len() < RESULT_LEN {
         return SHORT_RESULT;
     }
-    put_counted(bundle_count(bundle), res)
+    bundle_count(bundle).put(res)
 }
 
 // Where message k of a bundle stands in it.
@@ -51,7 +51,7 @@ pub extern "C" fn sluicepod_bundle_message(bundle: &[u8], k: usize, res: &mut [u
     if res.len() < RESULT_LEN {
         return SHORT_RESULT;
     }
-    put_message(bundle_message(bundle, k), res)
+    bundle_message(bundle, k).put(res)
 }
 
 // The report of a bundle.
@@ -63,5 +63,5 @@ pub extern "C" fn sluicepod_bundle_report(bundle: &[u8], res: &mut [usize]) -> u
     if res.len() < RESULT_LEN {
         return SHORT_RESULT;
     }
-    put_report(bundle_report(bundle), res)
+    bundle_report(bundle).put(res)
 }

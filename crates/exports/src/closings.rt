@@ -2,13 +2,14 @@
 ghost use Rattle.std.specs.Prelude.{◌≡◌};
 ghost use Rattle.closing.specs.Answers.{erase_answer, note_answer};
 ghost use Rattle.numbers.specs.Numbers.{code_of, result_of};
-ghost use Rattle.exports.specs.ByReading.{asked_in, reading_of};
+ghost use Rattle.divider.specs.Readings.{reading_of};
+ghost use Rattle.exports.specs.ByReading.{asked_in};
 
 use crate::SHORT_RESULT;
-use crate::readings::{NO_READING, ReadingAsked, reading_of};
-use answers::closings::{put_erase, put_note};
+use answers::Answer;
+use divider::{NoReading, Reading};
 use erasing::{closing_note, may_erase};
-use numbers::{RESULT_LEN, put};
+use numbers::RESULT_LEN;
 
 // The closing note of an entry.
 #[unsafe(no_mangle)]
@@ -19,10 +20,10 @@ pub extern "C" fn sluicepod_closing_note(message: &[u8], reading: u32, res: &mut
     if res.len() < RESULT_LEN {
         return SHORT_RESULT;
     }
-    let ReadingAsked::In(reading) = reading_of(reading) else {
-        return put(NO_READING, &[], res);
+    let Ok(reading) = Reading::try_from(reading) else {
+        return NoReading.put(res);
     };
-    put_note(closing_note(message, reading), res)
+    closing_note(message, reading).put(res)
 }
 
 // Whether the unit may erase, where so many records were received.
@@ -39,8 +40,8 @@ pub extern "C" fn sluicepod_may_erase(
     if res.len() < RESULT_LEN {
         return SHORT_RESULT;
     }
-    let ReadingAsked::In(reading) = reading_of(reading) else {
-        return put(NO_READING, &[], res);
+    let Ok(reading) = Reading::try_from(reading) else {
+        return NoReading.put(res);
     };
-    put_erase(may_erase(message, reading, received), res)
+    may_erase(message, reading, received).put(res)
 }

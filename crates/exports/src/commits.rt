@@ -4,7 +4,7 @@ ghost use Rattle.commit.specs.Answers.{line_answer, message_answer};
 ghost use Rattle.numbers.specs.Numbers.{code_of, result_of};
 
 use crate::SHORT_RESULT;
-use answers::commits::{put_line, put_message};
+use answers::Answer;
 use numbers::RESULT_LEN;
 use object::{commit_message, header_line};
 
@@ -17,7 +17,7 @@ pub extern "C" fn sluicepod_header_line(content: &[u8], number: usize, res: &mut
     if res.len() < RESULT_LEN {
         return SHORT_RESULT;
     }
-    put_line(header_line(content, number), res)
+    header_line(content, number).put(res)
 }
 
 // Where the message of a commit object stands.
@@ -29,5 +29,5 @@ pub extern "C" fn sluicepod_commit_message(content: &[u8], res: &mut [usize]) ->
     if res.len() < RESULT_LEN {
         return SHORT_RESULT;
     }
-    put_message(commit_message(content), res)
+    commit_message(content).put(res)
 }

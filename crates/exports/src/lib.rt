@@ -14,26 +14,22 @@ ghost use Rattle.std.specs.Prelude.{◌≡◌, length};
 ghost use Rattle.body.specs.Body.{block_answer, cursor_answer, find_answer, find_buffer, start_answer, trailers_answer};
 ghost use Rattle.message.specs.Decode.{title_answer};
 ghost use Rattle.message.specs.Message.{summary_answer, summary_buffer, walk_answer};
-ghost use Rattle.numbers.specs.Numbers.{buffer_of, code_of, kind_of, result_of};
+ghost use Rattle.rules.specs.Answers.{kind_of};
+ghost use Rattle.numbers.specs.Numbers.{buffer_of, code_of, result_of};
 ghost use Rattle.exports.specs.ByKind.{cursor, question_of, step_leaves, step_of};
 
+use answers::Answer;
 use body::{
     body_trailers, cursor_at, find_trailer, is_of_kind, next_block, next_trailer_of,
     trailer_block_start,
 };
 use message::decode::message_title_and_body;
 use message::{message_summary, message_trailers, summary};
-use numbers::{
-    Asked, RESULT_LEN, kind_of, put, put_block, put_found, put_start, put_step, put_title,
-    put_value, put_walk, put_yes_no,
-};
-use rules::{BlockCursor, Cursor, Part};
+use numbers::RESULT_LEN;
+use rules::{BlockCursor, Cursor, Kind, NoKind, Part};
 
 // The code where `res` is too short.
 pub const SHORT_RESULT: u32 = 255;
-
-// The code of a number that is no kind's.
-const NO_KIND: u32 = 254;
 
 // Where the title ends and where the body starts.
 #[unsafe(no_mangle)]
@@ -44,7 +40,7 @@ pub extern "C" fn sluicepod_title_and_body(message: &[u8], res: &mut [usize]) ->
     if res.len() < RESULT_LEN {
         return SHORT_RESULT;
     }
-    put_title(message_title_and_body(message), res)
+    message_title_and_body(message).put(res)
 }
 
 // The summary of a title: where it stands.
@@ -57,7 +53,7 @@ pub extern "C" fn sluicepod_summary(title: &[u8], out: &mut [u8], res: &mut [usi
     if res.len() < RESULT_LEN {
         return SHORT_RESULT;
     }
-    put_value(summary(title, out), res)
+    summary(title, out).put(res)
 }
 
 // The summary of a whole message: where it stands.
@@ -74,7 +70,7 @@ pub extern "C" fn sluicepod_message_summary(
     if res.len() < RESULT_LEN {
         return SHORT_RESULT;
     }
-    put_value(message_summary(message, out), res)
+    message_summary(message, out).put(res)
 }
 
 // Where the trailer block of a body starts.
@@ -86,7 +82,7 @@ pub extern "C" fn sluicepod_block_start(body: &[u8], res: &mut [usize]) -> u32
     if res.len() < RESULT_LEN {
         return SHORT_RESULT;
     }
-    put_start(trailer_block_start(body), res)
+    trailer_block_start(body).put(res)
 }
 
 // Where the walk of a message's trailers begins.
@@ -98,7 +94,7 @@ pub extern "C" fn sluicepod_message_trailers(message: &[u8], res: &mut [usize]) 
     if res.len() < RESULT_LEN {
         return SHORT_RESULT;
     }
-    put_walk(message_trailers(message), res)
+    message_trailers(message).put(res)
 }
 
 // Where the walk of a body's trailers begins.
@@ -110,7 +106,7 @@ pub extern "C" fn sluicepod_body_trailers(body: &[u8], res: &mut [usize]) -> u32
     if res.len() < RESULT_LEN {
         return SHORT_RESULT;
     }
-    put_walk(body_trailers(body), res)
+    body_trailers(body).put(res)
 }
 
 // The cursor of the place `at`, with the number of its line.
@@ -122,7 +118,7 @@ pub extern "C" fn sluicepod_cursor_at(input: &[u8], at: usize, res: &mut [usize]
     if res.len() < RESULT_LEN {
         return SHORT_RESULT;
     }
-    put_walk(cursor_at(input, at), res)
+    cursor_at(input, at).put(res)
 }
 
 // The next trailer from `at`, on the line with the number `line`, on whose token is of the kind.
@@ -142,10 +138,10 @@ pub extern "C" fn sluicepod_next_trailer(
     if res.len() < RESULT_LEN {
         return SHORT_RESULT;
     }
-    let Asked::Of(kind) = kind_of(kind) else {
-        return put(NO_KIND, &[], res);
+    let Ok(kind) = Kind::try_from(kind) else {
+        return NoKind.put(res);
     };
-    put_step(next_trailer_of(body, Cursor { at, line }, kind, out), res)
+    next_trailer_of(body, Cursor { at, line }, kind, out).put(res)
 }
 
 // The last trailer of a body that has the name.
@@ -163,7 +159,7 @@ pub extern "C" fn sluicepod_find_trailer(
     if res.len() < RESULT_LEN {
         return SHORT_RESULT;
     }
-    put_found(find_trailer(body, name, out), res)
+    find_trailer(body, name, out).put(res)
 }
 
 // The next block from `at` on, where the trailer block starts at `start`.
@@ -180,7 +176,7 @@ pub extern "C" fn sluicepod_next_block(
     if res.len() < RESULT_LEN {
         return SHORT_RESULT;
     }
-    put_block(next_block(body, BlockCursor { at, start }), res)
+    next_block(body, BlockCursor { at, start }).put(res)
 }
 
 // Whether the part of `input` from `start` up to `end` is a token of the kind.
@@ -198,8 +194,8 @@ pub extern "C" fn sluicepod_is_of_kind(
     if res.len() < RESULT_LEN {
         return SHORT_RESULT;
     }
-    let Asked::Of(kind) = kind_of(kind) else {
-        return put(NO_KIND, &[], res);
+    let Ok(kind) = Kind::try_from(kind) else {
+        return NoKind.put(res);
     };
-    put_yes_no(is_of_kind(input, Part { start, end }, kind), res)
+    is_of_kind(input, Part { start, end }, kind).put(res)
 }

@@ -6,13 +6,14 @@ ghost use Rattle.planning.specs.Scopes.{message_buffer, message_listing, scope_a
 ghost use Rattle.planning.specs.declared.Scope.{Scope};
 ghost use Rattle.numbers.specs.Numbers.{buffer_of, code_of, result_of};
 ghost use Rattle.exports.specs.ByKind.{cursor};
-ghost use Rattle.exports.specs.ByReading.{asked_in, is_whole, left_asked, reading_of};
+ghost use Rattle.divider.specs.Readings.{reading_of};
+ghost use Rattle.exports.specs.ByReading.{asked_in, is_whole, left_asked};
 
 use crate::SHORT_RESULT;
-use crate::readings::{NO_READING, ReadingAsked, reading_of};
-use answers::lists::put_listing;
+use answers::Answer;
+use divider::{NoReading, Reading};
 use flat::{list_foot, list_from, list_trailers};
-use numbers::{RESULT_LEN, put};
+use numbers::RESULT_LEN;
 use rules::Cursor;
 
 // All trailers from `at`, on the line with the number `line`, on.
@@ -33,7 +34,7 @@ pub extern "C" fn sluicepod_list_from(
     if res.len() < RESULT_LEN {
         return SHORT_RESULT;
     }
-    put_listing(list_from(input, Cursor { at, line }, table, out), res)
+    list_from(input, Cursor { at, line }, table, out).put(res)
 }
 
 // All trailers of a message in a reading.
@@ -53,10 +54,10 @@ pub extern "C" fn sluicepod_list_trailers(
     if res.len() < RESULT_LEN {
         return SHORT_RESULT;
     }
-    let ReadingAsked::In(reading) = reading_of(reading) else {
-        return put(NO_READING, &[], res);
+    let Ok(reading) = Reading::try_from(reading) else {
+        return NoReading.put(res);
     };
-    put_listing(list_trailers(message, reading, table, out), res)
+    list_trailers(message, reading, table, out).put(res)
 }
 
 // The trailers of a body's foot, by the last bytes of the body; `whole` is 0 where they are not all of it.
@@ -77,5 +78,5 @@ pub extern "C" fn sluicepod_list_foot(
         return SHORT_RESULT;
     }
     let all = whole != 0;
-    put_listing(list_foot(tail, all, table, out), res)
+    list_foot(tail, all, table, out).put(res)
 }

@@ -4,7 +4,7 @@ ghost use Rattle.mailbox.specs.Answers.{mailbox_answer};
 ghost use Rattle.numbers.specs.Numbers.{code_of, result_of};
 
 use crate::SHORT_RESULT;
-use answers::who::put_mailbox;
+use answers::Answer;
 use numbers::RESULT_LEN;
 use signer::mailbox;
 
@@ -17,5 +17,5 @@ pub extern "C" fn sluicepod_mailbox(value: &[u8], res: &mut [usize]) -> u32
     if res.len() < RESULT_LEN {
         return SHORT_RESULT;
     }
-    put_mailbox(mailbox(value), res)
+    mailbox(value).put(res)
 }

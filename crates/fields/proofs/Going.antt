@@ -1,71 +1,74 @@
--- A step of the walk counted: each field's tally goes on behind the trailer that the step finds. Assumes nothing.
-use Rattle.std.specs.Prelude.{if◌then◌else◌}
+-- A step of the walk: what is found of each field goes on behind the trailer that the step finds. Assumes nothing.
+use Rattle.std.specs.Prelude.{Option, None, Some, if◌then◌else◌}
 use mathlib.Core.Bool.{Bool, true, false}
-use mathlib.Core.List.{List, ◌∷◌}
+use mathlib.Core.List.{List, [], ◌∷◌}
 use mathlib.Core.Path.{◌≡◌, refl, sym, ap, ◌∙◌}
-use Prim.Native.Nat.{ℕ, suc, ◌-◌, ◌≤◌, ◌<◌}
+use Prim.Native.Nat.{ℕ, ◌-◌, ◌≤◌, ◌<◌}
 use native.Mathlib.Omega.{arith}
 use lib.ListN.{length, take, drop}
 use Rattle.rules.specs.Trailer.{Trailer, token_of, raw_value_at, end_of, those, walk_from}
+use Rattle.rules.specs.declared.Part.{Part}
 use Rattle.rules.specs.declared.Places.{Places}
 use Rattle.rules.proofs.Record.{places_fit, token_is}
 use Rattle.rules.proofs.Walk.{Stands, walk_moves, walk_stands, walk_step}
 use Rattle.trailer.proofs.Steps.{First, first_is, none_is}
 use Rattle.trailer.specs.Walk.{next_of}
-use Rattle.trailer.specs.declared.walk.NextTrailer.{NextTrailer}
 use Rattle.closing.specs.Closing.{has}
 use Rattle.closing.specs.declared.Field.{Field}
-use Rattle.fields.specs.Tally.{no_tally, counted, counted_by, tallied, tally_of, TalliesOf}
+use Rattle.fields.specs.Tally.{raw_part, found_of, tally_of, more, counted, TalliesOf}
+use Rattle.fields.specs.declared.tally.Found.{Found}
 use Rattle.fields.specs.declared.tally.Tallies.{Tallies}
-use Rattle.fields.specs.declared.tally.Tally.{Tally}
 
-counted_more : (a : Tally) (b : Bool) (start end : ℕ) → (counted a b start end).count ≤ suc a.count
-counted_more a true start end = omega arith
-counted_more a false start end = omega arith
+-- what is found when some trailers follow
+abbrev followed : Option Found → List Trailer → Option Found
+followed found [] = found
+followed found (t ∷ ts) = followed (more found (raw_part t)) ts
 
-same_counted : (f : Field) (a : Tally) {x y : List ℕ} {c d e g : ℕ} → x ≡ y → c ≡ d → e ≡ g → counted a (has f x) c e ≡ counted a (has f y) d g
-same_counted f a p q r = rw (p, q, r)
+repeated_stays : (ts : List Trailer) → followed (Some Found.Repeated) ts ≡ Some Found.Repeated
+repeated_stays [] = refl
+repeated_stays (t ∷ ts) = repeated_stays ts
+
+followed_is : (ts : List Trailer) → followed None ts ≡ found_of ts
+followed_is [] = refl
+followed_is (t ∷ []) = refl
+followed_is (t ∷ u ∷ ts) = repeated_stays ts
 
 -- one trailer more, in front of the others with the name
-tallied_more : (a : Tally) (b : Bool) (t : Trailer) (ts : List Trailer) → tallied (counted a b (raw_value_at t) (end_of t)) ts ≡ tallied a (if b then t ∷ ts else ts)
-tallied_more a true t ts = refl
-tallied_more a false t ts = refl
+followed_more : (a : Option Found) (b : Bool) (t : Trailer) (ts : List Trailer) → followed (counted a b (raw_part t)) ts ≡ followed a (if b then t ∷ ts else ts)
+followed_more a true t ts = refl
+followed_more a false t ts = refl
 
--- a field's tally of the walk from `at` on is what is counted up to `from`, and the walk from there on
-pub record Going (f : Field) (message : List ℕ) (at : ℕ) (a : Tally) (from : ℕ) : Type 0 where
-  pub few : a.count ≤ from
-  pub whole : tallied a (those (has f) (walk_from message from)) ≡ tally_of f (walk_from message at)
+-- what is found of a field in the walk from `at` on is what is found up to `from`, and in the walk from there on
+abbrev Going : Field → List ℕ → ℕ → Option Found → ℕ → Type 0
+Going f message at a from = followed a (those (has f) (walk_from message from)) ≡ tally_of f (walk_from message at)
 
-going_start : (f : Field) (message : List ℕ) (at : ℕ) → Going f message at no_tally at
-going_start f message at = record { few = omega arith; whole = refl }
-
--- so are all three
+-- so for all three
 pub record AllGoing (message : List ℕ) (at : ℕ) (a : Tallies) (from : ℕ) : Type 0 where
   pub within : from ≤ length message
   pub vehicle_goes : Going Field.Vehicle message at a.vehicle from
   pub records_goes : Going Field.Records message at a.records from
   pub state_goes : Going Field.OffloadState message at a.state from
 
-pub all_start : (message : List ℕ) (at : ℕ) → at ≤ length message → AllGoing message at (record { vehicle = no_tally; records = no_tally; state = no_tally }) at
+pub all_start : (message : List ℕ) (at : ℕ) → at ≤ length message → AllGoing message at (record { vehicle = None; records = None; state = None }) at
 all_start message at l = record {
   within = l;
-  vehicle_goes = going_start Field.Vehicle message at;
-  records_goes = going_start Field.Records message at;
-  state_goes = going_start Field.OffloadState message at;
+  vehicle_goes = followed_is (those (has Field.Vehicle) (walk_from message at));
+  records_goes = followed_is (those (has Field.Records) (walk_from message at));
+  state_goes = followed_is (those (has Field.OffloadState) (walk_from message at));
 }
 
 module _ {message : List ℕ} {at : ℕ} {a : Tallies} {from : ℕ} (g : AllGoing message at a from) where
-  pub all_end : next_of (walk_from message from) ≡ NextTrailer.End → TalliesOf (walk_from message at) a
+  pub all_end : next_of (walk_from message from) ≡ None → TalliesOf (walk_from message at) a
   all_end q = record {
     vehicle_is = ended Field.Vehicle a.vehicle g.vehicle_goes;
     records_is = ended Field.Records a.records g.records_goes;
     state_is = ended Field.OffloadState a.state g.state_goes;
   }
     where
-      ended : (f : Field) (b : Tally) → Going f message at b from → b ≡ tally_of f (walk_from message at)
-      ended f b h = sym (ap (λ (ts : List Trailer). tallied b (those (has f) ts)) (none_is (walk_from message from) q)) ∙ h.whole
+      ended : (f : Field) (b : Option Found) → Going f message at b from → b ≡ tally_of f (walk_from message at)
+      ended f b h = sym (ap (λ (ts : List Trailer). followed b (those (has f) ts)) (none_is (walk_from message from) q)) ∙ h
 
-  module _ {p : Places} (q : next_of (walk_from message from) ≡ NextTrailer.Trailer p) where
+  module _ {p : Places} (q : next_of (walk_from message from) ≡ Some p) where
     first : First (walk_from message from) p
     first = first_is (walk_from message from) q
 
@@ -81,22 +84,33 @@ module _ {message : List ℕ} {at : ℕ} {a : Tallies} {from : ℕ} (g : AllGoin
     list : walk_from message from ≡ first.found ∷ walk_from message p.end
     list = cc (first.walked, ends, walk_step message from first.found first.later first.walked)
 
-    step : (f : Field) (b : Tally) → Going f message at b from →
-        Going f message at (counted b (has f (take (p.token_end - p.start) (drop p.start message))) p.value_start p.end) p.end
-    step f b h =
-        let token : take (p.token_end - p.start) (drop p.start message) ≡ token_of first.found = token_is there first.places in
-        let value : p.value_start ≡ raw_value_at first.found = ap (λ (x : Places). x.value_start) first.places in
-        record {
-          few = omega (arith, counted_more b (has f (take (p.token_end - p.start) (drop p.start message))) p.value_start p.end, h.few, order);
-          whole = ap (λ (x : Tally). tallied x (those (has f) (walk_from message p.end))) (same_counted f b token value ends)
-              ∙ tallied_more b (has f (token_of first.found)) first.found (those (has f) (walk_from message p.end))
-              ∙ sym (ap (λ (ts : List Trailer). tallied b (those (has f) ts)) list) ∙ h.whole;
-        }
+    token : List ℕ
+    token = take (p.token_end - p.start) (drop p.start message)
 
-    pub all_step : AllGoing message at (counted_by a (take (p.token_end - p.start) (drop p.start message)) p.value_start p.end) p.end
-    all_step = record {
+    raw : Part
+    raw = record { start = p.value_start; end = p.end }
+
+    step : (f : Field) (b : Option Found) → Going f message at b from → Going f message at (counted b (has f token) raw) p.end
+    unfolding token raw
+    step f b h =
+        let named : token ≡ token_of first.found = token_is there first.places in
+        let value : p.value_start ≡ raw_value_at first.found = ap (λ (x : Places). x.value_start) first.places in
+        same b named value ends ∙ followed_more b (has f (token_of first.found)) first.found (those (has f) (walk_from message p.end))
+        ∙ sym (ap (λ (ts : List Trailer). followed b (those (has f) ts)) list) ∙ h
+      where
+        same : (b : Option Found) {x y : List ℕ} {c d e g : ℕ} → x ≡ y → c ≡ d → e ≡ g
+            → followed (counted b (has f x) (record { start = c; end = e })) (those (has f) (walk_from message p.end))
+            ≡ followed (counted b (has f y) (record { start = d; end = g })) (those (has f) (walk_from message p.end))
+        same b p q r = rw (p, q, r)
+
+    pub all_step : {v r s : Option Found} → v ≡ counted a.vehicle (has Field.Vehicle (take (p.token_end - p.start) (drop p.start message))) (record { start = p.value_start; end = p.end })
+        → r ≡ counted a.records (has Field.Records (take (p.token_end - p.start) (drop p.start message))) (record { start = p.value_start; end = p.end })
+        → s ≡ counted a.state (has Field.OffloadState (take (p.token_end - p.start) (drop p.start message))) (record { start = p.value_start; end = p.end })
+        → AllGoing message at (record { vehicle = v; records = r; state = s }) p.end
+    unfolding token raw
+    all_step v r s = rw (v, r, s) (record {
       within = order.4;
       vehicle_goes = step Field.Vehicle a.vehicle g.vehicle_goes;
       records_goes = step Field.Records a.records g.records_goes;
       state_goes = step Field.OffloadState a.state g.state_goes;
-    }
+    })

@@ -1,13 +1,13 @@
 -- A raw value passed line by line up to the first line that trims to something; two such searches tell the sole line.
 -- Assumes nothing.
 use Rattle.std.specs.Prelude.{if◌then◌else◌}
-use mathlib.Core.Bool.{not, ◌||◌}
+use mathlib.Core.Bool.{Bool, true, false, not, ◌||◌}
 use mathlib.Core.List.{List, [], ◌∷◌, map}
 use mathlib.Core.Path.{◌≡◌, refl, sym, ap, ◌∙◌}
 use Prim.Native.Nat.{ℕ, ◌+◌, ◌-◌, ◌≤◌, ◌<◌}
 use native.Mathlib.Omega.{arith}
 use lib.Dec.{T}
-use lib.ListN.{length, take, drop, drop_of_length-le, length-drop}
+use lib.ListN.{length, take, drop, length-drop}
 use lib.Seq.{drop-drop, length-take-le}
 use Rattle.rules.specs.Lines.{Line, lines}
 use Rattle.rules.specs.Lists.{any, filled}
@@ -19,7 +19,7 @@ use Rattle.text.specs.Lines.{first_length}
 use Rattle.text.proofs.ByLines.{line_then, line_ahead, line_length}
 use Rattle.closing.specs.Judged.{sole_of, sole_line, first_kept, kept_at, behind_kept}
 use Rattle.closing.proofs.Place.{part_in_lem}
-use Rattle.fields.specs.Sole.{KeptAt, SoleAt}
+use Rattle.fields.specs.Sole.{IsKept, IsSole, part_in}
 use Rattle.fields.specs.declared.sole.Kept.{Kept}
 
 some_filled : (s : List ℕ) → 0 < length s → T (filled s)
@@ -37,21 +37,7 @@ pub record Passed (value : List ℕ) (at from : ℕ) : Type 0 where
   pub same_first : first_kept (lines (drop from value)) ≡ first_kept (lines (drop at value))
   pub same_behind : behind_kept (lines (drop from value)) ≡ behind_kept (lines (drop at value))
 
-pub passed_start : (value : List ℕ) (at : ℕ) → at ≤ length value → Passed value at at
-passed_start value at l = record { within = l; same_place = refl; same_first = refl; same_behind = refl }
-
 module _ {value : List ℕ} {at from : ℕ} (p : Passed value at from) where
-  pub kept_none : length value ≤ from → KeptAt value at (record { start = from; end = from; next = from })
-  kept_none l =
-      let z : from - from ≡ 0 = omega arith in
-      let d : drop from value ≡ [] = drop_of_length-le value l in
-      record {
-        order = (omega arith, omega (arith, p.within), omega (arith, p.within));
-        place = omega (arith, ap (λ (s : List ℕ). kept_at (lines s)) d, p.same_place);
-        kept = rw z (ap (λ (s : List ℕ). first_kept (lines s)) (sym d) ∙ p.same_first);
-        behind = rw d (ap (λ (s : List ℕ). behind_kept (lines s)) (sym d) ∙ p.same_behind);
-      }
-
   module _ (n : ℕ) (h : from < length value) (e : n ≡ first_length (lines (take (length value - from) (drop from value)))) where
     line : Line
     line = take (from + n - from) (drop from value)
@@ -87,7 +73,7 @@ module _ {value : List ℕ} {at from : ℕ} (p : Passed value at from) where
       pub kept_within : from + t ≤ from + n
       kept_within = omega (arith, inside)
 
-      pub kept_here : from + s < from + t → KeptAt value at (record { start = from + s; end = from + t; next = from + n })
+      pub kept_here : s < t → IsKept value at (record { part = record { start = from + s; end = from + t }; next = from + n })
       unfolding line
       kept_here l =
           let f : T (filled (trim line)) = some_filled (trim line) (omega (arith, q)) in
@@ -100,7 +86,7 @@ module _ {value : List ℕ} {at from : ℕ} (p : Passed value at from) where
             behind = sym (sym p.same_behind ∙ behind_by ∙ rw (is_true (filled (trim line)) f));
           }
 
-      pub passed_step : from + t ≤ from + s → Passed value at (from + n)
+      pub passed_step : t ≤ s → Passed value at (from + n)
       unfolding line
       passed_step l =
           let f : T (not (filled (trim line))) = none_filled (trim line) (omega (arith, q)) in
@@ -133,33 +119,36 @@ sole_by (l ∷ ls) = at (trim l) (sole_by ls)
     at [] h = h
     at (c ∷ s) h = rw (any_kept ls)
 
-module _ {value : List ℕ} {a b : Kept} (first : KeptAt value 0 a) (second : KeptAt value a.next b) where
-  later : take (b.end - b.start) (drop b.start value) ≡ first_kept (behind_kept (lines value))
-  later = second.kept ∙ ap first_kept first.behind
+none_kept : (ls : List Line) → first_kept ls ≡ [] → sole_of (map trim ls) ≡ []
+none_kept ls e = sole_by ls ∙ at (filled (first_kept (behind_kept ls)))
+  where
+    at : (b : Bool) → (if b then [] else first_kept ls) ≡ []
+    at true = refl
+    at false = e
 
-  none : T (filled (first_kept (behind_kept (lines value)))) → sole_line value ≡ []
-  unfolding sole_line
-  none f = sole_by (lines value) ∙ rw (is_true (filled (first_kept (behind_kept (lines value)))) f)
+-- no line is kept
+pub sole_none : (value : List ℕ) → first_kept (lines value) ≡ [] → sole_line value ≡ []
+unfolding sole_line
+sole_none value e = none_kept (lines value) e
 
-  pub sole_two : b.start < b.end → SoleAt value (record { start = 0; end = 0 })
+module _ {value : List ℕ} {a : Kept} (first : IsKept value 0 a) where
+  -- one more is
+  pub sole_two : {b : Kept} → IsKept value a.next b → sole_line value ≡ []
   unfolding sole_line
-  sole_two l =
-      let size : length (take (b.end - b.start) (drop b.start value)) ≡ b.end - b.start =
-      length-take-le (b.end - b.start) (drop b.start value) (omega (arith, second.order, length-drop b.start value)) in
-      let f : T (filled (first_kept (behind_kept (lines value)))) = some_filled (first_kept (behind_kept (lines value))) (omega (arith, size, ap length later)) in
-      record {
-        order = (omega arith, omega arith);
-        place = λ g. absurd (rw (none f) at g);
-        sole = sym (none f);
-      }
+  sole_two {b} second =
+      let size : length (part_in value b.part) ≡ b.part.end - b.part.start =
+      length-take-le (b.part.end - b.part.start) (drop b.part.start value) (omega (arith, second.order, length-drop b.part.start value)) in
+      let later : part_in value b.part ≡ first_kept (behind_kept (lines value)) = second.kept ∙ ap first_kept first.behind in
+      let f : T (filled (first_kept (behind_kept (lines value)))) = some_filled (first_kept (behind_kept (lines value))) (omega (arith, second.order, size, ap length later)) in
+      sole_by (lines value) ∙ rw (is_true (filled (first_kept (behind_kept (lines value)))) f)
 
-  pub sole_one : b.end ≤ b.start → SoleAt value (record { start = a.start; end = a.end })
+  -- no other is
+  pub sole_one : first_kept (lines (drop a.next value)) ≡ [] → IsSole value a.part
   unfolding sole_line
-  sole_one l =
-      let z : b.end - b.start ≡ 0 = omega arith in
-      let n : first_kept (behind_kept (lines value)) ≡ [] = sym later ∙ rw z in
+  sole_one n =
+      let none : first_kept (behind_kept (lines value)) ≡ [] = sym (ap first_kept first.behind) ∙ n in
       record {
         order = (first.order.0, first.order.1);
-        place = λ g. omega (arith, first.place);
-        sole = sym (sole_by (lines value) ∙ rw n (sym first.kept));
+        place = omega (arith, first.place);
+        sole = sym (sole_by (lines value) ∙ rw none (sym first.kept));
       }

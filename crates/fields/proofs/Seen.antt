@@ -1,134 +1,155 @@
--- What is seen of a field, from its tally (see_other, see_one); and what that says of the trailers (Seen, seen). Assumes nothing.
-use mathlib.Core.Bool.{Bool, true, false}
+-- What is found of a field says whether it is missing and whether it is repeated; and of one trailer alone, where its content is judged
+-- and where it stands (Good). Assumes nothing.
+use Rattle.std.specs.Prelude.{Option, None, Some}
+use mathlib.Core.Bool.{true, false}
 use mathlib.Core.List.{List, [], ◌∷◌, map}
 use mathlib.Core.Path.{◌≡◌, refl, sym, ap, ◌∙◌}
-use Prim.Native.Nat.{ℕ, ◌+◌, ◌-◌, ◌≤◌}
+use Prim.Native.Nat.{ℕ, ◌+◌, ◌-◌}
 use native.Mathlib.Omega.{arith}
-use lib.ListN.{length, take, drop, length-drop, length-map}
+use borrow.Author.Tests.{lt-ltb}
+use lib.Dec.{not_T}
+use lib.ListN.{length, take, drop, length-drop}
 use lib.Seq.{drop-drop, length-take-le}
 use Rattle.rules.specs.Lines.{lines}
 use Rattle.rules.specs.Trailer.{Trailer, raw_value, raw_value_at, end_of, those, unfolded, walk_from}
 use Rattle.rules.specs.declared.Part.{Part}
-use Rattle.rules.proofs.Walk.{Stands}
-use Rattle.closing.specs.Closing.{has, content, contents, head}
+use Rattle.rules.proofs.Lists.{is_false}
+use Rattle.closing.specs.Closing.{has, content, contents, head, says}
 use Rattle.closing.specs.Contents.{good}
 use Rattle.closing.specs.Judged.{sole_line, kept_at, first_at, content_at}
+use Rattle.closing.specs.declared.Fault.{Fault}
 use Rattle.closing.specs.declared.Field.{Field}
 use Rattle.closing.proofs.Judged.{judged_alone, good-filled, good_sole}
 use Rattle.closing.proofs.Place.{part_in_lem, Alone, alone}
-use Rattle.fields.specs.Note.{SeenBy, raw_in, part_in}
-use Rattle.fields.specs.Sole.{SoleAt}
-use Rattle.fields.specs.Tally.{Inside, no_tally, counted, tallied, tally_of}
-use Rattle.fields.specs.declared.note.Seen.{Seen as Found}
-use Rattle.fields.specs.declared.tally.Tally.{Tally}
+use Rattle.fields.specs.Note.{Inside, IsContent}
+use Rattle.fields.specs.Sole.{IsSole, part_in}
+use Rattle.fields.specs.Tally.{raw_part, found_of, tally_of}
+use Rattle.fields.specs.declared.tally.Found.{Found}
 
--- ---- from a tally
+-- ---- the content of a raw value, by its sole line
 
--- more than one, or none
-pub see_other : (f : Field) (m : List ℕ) (a : Tally) → (a.count ≡ 1 → ⊥) → SeenBy f m a (record { count = a.count; start = 0; end = 0; good = false })
-see_other f m a n = record {
-  count_is = refl;
-  order = (omega arith, omega arith);
-  judged = λ k. absurd (n k);
-  place = λ k _. absurd (n k);
-  shown = λ k _. absurd (n k);
-}
+module _ (f : Field) (value : List ℕ) where
+  -- no line is the sole one
+  pub none_good : sole_line value ≡ [] → good f (unfolded value) ≡ false
+  none_good e = sym (judged_alone f value) ∙ ap (good f) e ∙ is_false (good f []) (not_T (good f []) (good-filled f []))
 
-module _ (f : Field) (m : List ℕ) (a : Tally) (fits : (a.start ≤ a.end) × (a.end ≤ length m)) (p : Part) (s : SoleAt (raw_in m a) p) where
-  raw_length : length (raw_in m a) ≡ a.end - a.start
-  raw_length = length-take-le (a.end - a.start) (drop a.start m) (omega (arith, fits, length-drop a.start m))
+  module _ {p : Part} (s : IsSole value p) where
+    judged : good f (part_in value p) ≡ good f (unfolded value)
+    judged = ap (good f) s.sole ∙ judged_alone f value
 
-  pub see_within : (a.start + p.start ≤ a.start + p.end) × (a.start + p.end ≤ length m)
-  see_within = omega (arith, s.order, raw_length, fits)
+    pub bad_content : good f (part_in value p) ≡ false → good f (unfolded value) ≡ false
+    bad_content e = sym judged ∙ e
 
-  there : take (a.start + p.end - (a.start + p.start)) (drop (a.start + p.start) m) ≡ sole_line (raw_in m a)
+module _ (f : Field) (m : List ℕ) (raw : Part) (fits : Inside m raw) (p : Part) (s : IsSole (part_in m raw) p) where
+  raw_length : length (part_in m raw) ≡ raw.end - raw.start
+  raw_length = length-take-le (raw.end - raw.start) (drop raw.start m) (omega (arith, fits, length-drop raw.start m))
+
+  there : take (raw.start + p.end - (raw.start + p.start)) (drop (raw.start + p.start) m) ≡ sole_line (part_in m raw)
   there =
-      let n : a.start + p.end - (a.start + p.start) ≡ p.end - p.start = omega (arith, s.order) in
-      rw (n, ← (drop-drop p.start a.start m))
-      (sym (part_in_lem p.start (p.end - p.start) (a.end - a.start) (drop a.start m) (omega (arith, s.order, raw_length))) ∙ s.sole)
+      let n : raw.start + p.end - (raw.start + p.start) ≡ p.end - p.start = omega (arith, s.order) in
+      rw (n, ← (drop-drop p.start raw.start m))
+      (sym (part_in_lem p.start (p.end - p.start) (raw.end - raw.start) (drop raw.start m) (omega (arith, s.order, raw_length))) ∙ s.sole)
 
-  pub see_one : a.count ≡ 1 → (g : Bool) → g ≡ good f (take (a.start + p.end - (a.start + p.start)) (drop (a.start + p.start) m)) →
-      SeenBy f m a (record { count = 1; start = a.start + p.start; end = a.start + p.end; good = g })
-  see_one k g h =
-      let judge : g ≡ good f (unfolded (raw_in m a)) = h ∙ ap (good f) there ∙ judged_alone f (raw_in m a) in
-      let same : g ≡ true → sole_line (raw_in m a) ≡ unfolded (raw_in m a) = λ t. good_sole f (raw_in m a) (rw (sym judge ∙ t) tt) in
+  pub good_content : good f (part_in (part_in m raw) p) ≡ true → IsContent f m raw (record { start = raw.start + p.start; end = raw.start + p.end })
+  good_content g =
+      let good_value : good f (unfolded (part_in m raw)) ≡ true = sym (judged f (part_in m raw) s) ∙ g in
       record {
-        count_is = sym k;
-        order = see_within;
-        judged = λ _. judge;
-        place = λ _ t. ap (λ (x : ℕ). a.start + x) (s.place (rw (same t) (good-filled f (unfolded (raw_in m a)) (rw (sym judge ∙ t) tt))));
-        shown = λ _ t. there ∙ same t;
+        inside = omega (arith, s.order, raw_length, fits);
+        is_good = good_value;
+        place = ap (λ (n : ℕ). raw.start + n) s.place;
+        shown = there ∙ good_sole f (part_in m raw) (rw good_value tt);
       }
 
--- ---- of the trailers
+-- ---- what is found of a field
 
-tally_count : (a : Tally) (ts : List Trailer) → (tallied a ts).count ≡ a.count + length ts
-tally_count a [] = omega arith
-tally_count a (t ∷ ts) = omega (arith, tally_count (counted a true (raw_value_at t) (end_of t)) ts)
+module _ (f : Field) (ts : List Trailer) where
+  is_missing : (us : List Trailer) → None ≡ found_of us → says Fault.Missing f (map content us) ≡ true
+  is_missing [] e = refl
+  is_missing (t ∷ []) e = absurd (cc)
+  is_missing (t ∷ u ∷ us) e = absurd (cc)
 
--- one trailer alone has the name: the tally tells where its raw value stands
-record Sole (f : Field) (m : List ℕ) (ts : List Trailer) (a : Tally) : Type 0 where
-  the_trailer : Trailer
-  stands : Stands m the_trailer
-  those_are : those (has f) ts ≡ the_trailer ∷ []
-  starts : a.start ≡ raw_value_at the_trailer
-  ends : a.end ≡ end_of the_trailer
+  is_present : (us : List Trailer) {x : Found} → Some x ≡ found_of us → says Fault.Missing f (map content us) ≡ false
+  is_present [] e = absurd (cc)
+  is_present (t ∷ us) e = refl
 
--- how many trailers have the name; of one alone whether its content is good, and where that then stands
-pub record Seen (f : Field) (m : List ℕ) (ts : List Trailer) (r : Found) : Type 0 where
-  pub count_is : r.count ≡ length (contents f ts)
-  pub order : (r.start ≤ r.end) × (r.end ≤ length m)
-  pub judged : r.count ≡ 1 → r.good ≡ good f (head (contents f ts))
-  pub place : r.count ≡ 1 → r.good ≡ true → r.start ≡ content_at f ts
-  pub shown : r.count ≡ 1 → r.good ≡ true → part_in m r ≡ head (contents f ts)
+  is_repeated : (us : List Trailer) → Some Found.Repeated ≡ found_of us → says Fault.Repeated f (map content us) ≡ true
+  is_repeated [] e = absurd (cc)
+  is_repeated (t ∷ []) e = absurd (cc)
+  is_repeated (t ∷ u ∷ us) e = lt-ltb 1 (length (map content (t ∷ u ∷ us))) (omega arith)
 
-raw_there : (m : List ℕ) (t : Trailer) (start end : ℕ) → Stands m t → start ≡ raw_value_at t → end ≡ end_of t → take (end - start) (drop start m) ≡ raw_value t
-raw_there m t start end s b e =
-    let size : end - start ≡ length (raw_value t) = omega (arith, s.raw_ends) in
-    rw (size, b) s.raw_at
+  pub missing : None ≡ tally_of f ts → says Fault.Missing f (contents f ts) ≡ true
+  missing = is_missing (those (has f) ts)
 
-module _ (f : Field) (m : List ℕ) (at : ℕ) (a : Tally) (e : a ≡ tally_of f (walk_from m at)) where
-  counted_is : a.count ≡ length (those (has f) (walk_from m at))
-  counted_is = omega (arith, ap (λ (x : Tally). x.count) e, tally_count no_tally (those (has f) (walk_from m at)))
+  pub present : {x : Found} → Some x ≡ tally_of f ts → says Fault.Missing f (contents f ts) ≡ false
+  present = is_present (those (has f) ts)
 
-  sole_trailer : a.count ≡ 1 → Sole f m (walk_from m at) a
-  sole_trailer k = found (alone f m at (walk_from m at) refl (sym counted_is ∙ k))
-    where
-      found : Alone f m (walk_from m at) → Sole f m (walk_from m at) a
-      found o =
-          let d : a ≡ counted no_tally true (raw_value_at o.the_trailer) (end_of o.the_trailer) = e ∙ ap (tallied no_tally) o.those_are in
-          record {
-            the_trailer = o.the_trailer;
-            stands = o.stands;
-            those_are = o.those_are;
-            starts = ap (λ (x : Tally). x.start) d;
-            ends = ap (λ (x : Tally). x.end) d;
-          }
+  pub repeated : Some Found.Repeated ≡ tally_of f ts → says Fault.Repeated f (contents f ts) ≡ true
+  repeated = is_repeated (those (has f) ts)
 
-  pub tally_inside : Inside m a
-  tally_inside k =
-      let o : Sole f m (walk_from m at) a = sole_trailer k in
-      omega (arith, o.starts, o.ends, o.stands.raw_ends, o.stands.inside)
+-- ---- of one trailer alone
 
-  pub seen : (r : Found) → SeenBy f m a r → Seen f m (walk_from m at) r
-  seen r s =
-      record {
-        count_is = s.count_is ∙ counted_is ∙ sym (length-map (those (has f) (walk_from m at)) content);
-        order = s.order;
-        judged = λ k. s.judged (sym s.count_is ∙ k) ∙ ap (good f) (same_content (sym s.count_is ∙ k));
-        place = λ k t. s.place (sym s.count_is ∙ k) t ∙ same_place (sym s.count_is ∙ k);
-        shown = λ k t. s.shown (sym s.count_is ∙ k) t ∙ same_content (sym s.count_is ∙ k);
-      }
-    where
-      same_content : a.count ≡ 1 → unfolded (raw_in m a) ≡ head (contents f (walk_from m at))
-      same_content k =
-          let o : Sole f m (walk_from m at) a = sole_trailer k in
-          ap unfolded (raw_there m o.the_trailer a.start a.end o.stands o.starts o.ends)
-          ∙ sym (ap (λ (ts : List Trailer). head (map content ts)) o.those_are)
+one_long : (us : List Trailer) {raw : Part} → Some (Found.Once raw) ≡ found_of us → length us ≡ 1
+one_long [] e = absurd (cc)
+one_long (t ∷ []) e = refl
+one_long (t ∷ u ∷ us) e = absurd (cc)
 
-      same_place : a.count ≡ 1 → a.start + kept_at (lines (raw_in m a)) ≡ content_at f (walk_from m at)
-      same_place k =
-          let o : Sole f m (walk_from m at) a = sole_trailer k in
-          ap (λ (raw : List ℕ). a.start + kept_at (lines raw)) (raw_there m o.the_trailer a.start a.end o.stands o.starts o.ends)
-          ∙ ap (λ (n : ℕ). n + kept_at (lines (raw_value o.the_trailer))) o.starts
-          ∙ sym (ap first_at o.those_are)
+same_raw : {raw : Part} (us : List Trailer) (t : Trailer) → us ≡ t ∷ [] → Some (Found.Once raw) ≡ found_of us → raw ≡ raw_part t
+same_raw {raw} us t q e =
+    let k : Some (Found.Once raw) ≡ Some (Found.Once (raw_part t)) = e ∙ ap found_of q in
+    cc
+
+-- one trailer alone of the walk from `at` on has the field's name, and its raw value stands at `raw`
+pub record Once (f : Field) (m : List ℕ) (at : ℕ) (raw : Part) : Type 0 where
+  pub found : Some (Found.Once raw) ≡ tally_of f (walk_from m at)
+
+pub once : {f : Field} {m : List ℕ} {at : ℕ} {raw : Part} {some : Found} {all : Option Found}
+    → some ≡ Found.Once raw → all ≡ Some some → all ≡ tally_of f (walk_from m at) → Once f m at raw
+once p q e = record { found = ap Some (sym p) ∙ sym q ∙ e }
+
+module _ {f : Field} {m : List ℕ} {at : ℕ} {raw : Part} (e : Once f m at raw) where
+  o : Alone f m (walk_from m at)
+  o = alone f m at (walk_from m at) refl (one_long (those (has f) (walk_from m at)) e.found)
+
+  starts : raw.start ≡ raw_value_at o.the_trailer
+  starts = ap (λ (p : Part). p.start) (same_raw (those (has f) (walk_from m at)) o.the_trailer o.those_are e.found)
+
+  ends : raw.end ≡ end_of o.the_trailer
+  ends = ap (λ (p : Part). p.end) (same_raw (those (has f) (walk_from m at)) o.the_trailer o.those_are e.found)
+
+  pub raw_inside : Inside m raw
+  raw_inside = omega (arith, starts, ends, o.stands.raw_ends, o.stands.inside)
+
+  raw_there : part_in m raw ≡ raw_value o.the_trailer
+  raw_there =
+      let size : raw.end - raw.start ≡ length (raw_value o.the_trailer) = omega (arith, starts, ends, o.stands.raw_ends) in
+      rw size (ap (λ (n : ℕ). take (length (raw_value o.the_trailer)) (drop n m)) starts ∙ o.stands.raw_at)
+
+  one_content : contents f (walk_from m at) ≡ unfolded (part_in m raw) ∷ []
+  one_content = ap (map content) o.those_are ∙ ap (λ (s : List ℕ). unfolded s ∷ []) (sym raw_there)
+
+  pub not_repeated : says Fault.Repeated f (contents f (walk_from m at)) ≡ false
+  not_repeated = rw one_content
+
+  pub bad : good f (unfolded (part_in m raw)) ≡ false → says Fault.BadContent f (contents f (walk_from m at)) ≡ true
+  bad b = rw (one_content, b)
+
+  module _ {p : Part} (c : IsContent f m raw p) where
+    pub not_bad : says Fault.BadContent f (contents f (walk_from m at)) ≡ false
+    not_bad = rw (one_content, c.is_good)
+
+    pub is_good : good f (head (contents f (walk_from m at))) ≡ true
+    is_good = rw (one_content, c.is_good)
+
+    pub shown : part_in m p ≡ head (contents f (walk_from m at))
+    shown = c.shown ∙ sym (ap head one_content)
+
+    pub place : p.start ≡ content_at f (walk_from m at)
+    place =
+        c.place ∙ ap (λ (s : List ℕ). raw.start + kept_at (lines s)) raw_there
+        ∙ ap (λ (n : ℕ). n + kept_at (lines (raw_value o.the_trailer))) starts
+        ∙ sym (ap first_at o.those_are)
+
+    pub end_place : p.end ≡ content_at f (walk_from m at) + length (head (contents f (walk_from m at)))
+    end_place =
+        let size : length (part_in m p) ≡ p.end - p.start = length-take-le (p.end - p.start) (drop p.start m) (omega (arith, c.inside, length-drop p.start m)) in
+        omega (arith, size, ap length shown, place, c.inside)

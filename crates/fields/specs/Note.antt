@@ -1,41 +1,36 @@
--- A field as it is seen, and the first refusal by what is seen of the three.
-use Rattle.std.specs.Prelude.{Bool, true, not, List, ◌≡◌, ℕ, ◌+◌, ◌-◌, ◌≤◌, eqb, length, take, drop, if◌then◌else◌}
+-- What each step towards the note answers of a field: a refusal, or what the next step takes.
+use Rattle.std.specs.Prelude.{true, false, List, ◌≡◌, ℕ, ◌+◌, ◌≤◌, length, Option, Some, None, Result, Ok, Err}
 use Rattle.rules.specs.Lines.{lines}
 use Rattle.rules.specs.Trailer.{unfolded}
+use Rattle.rules.specs.declared.Part.{Part}
 use Rattle.closing.specs.Contents.{good}
 use Rattle.closing.specs.Judged.{kept_at}
 use Rattle.closing.specs.declared.Fault.{Fault}
 use Rattle.closing.specs.declared.Field.{Field}
-use Rattle.fields.specs.declared.note.Seen.{Seen}
-use Rattle.fields.specs.declared.note.Verdict.{Verdict}
-use Rattle.fields.specs.declared.tally.Tally.{Tally}
+use Rattle.closing.specs.declared.NoteError.{NoteError}
+use Rattle.fields.specs.Sole.{part_in}
+use Rattle.fields.specs.declared.tally.Found.{Found}
 
--- the raw value that a tally tells of
-abbrev pub raw_in : List ℕ → Tally → List ℕ
-raw_in message a = take (a.end - a.start) (drop a.start message)
+-- missing, or not
+abbrev pub PresentOf : Option Found → Field → Result Found NoteError → Type 0
+PresentOf found f (Ok some) = found ≡ Some some
+PresentOf found f (Err e) = (found ≡ None) × (e ≡ NoteError.Refused Fault.Missing f)
 
--- the part of the message where a content is seen
-abbrev pub part_in : List ℕ → Seen → List ℕ
-part_in message r = take (r.end - r.start) (drop r.start message)
+-- repeated, or not
+abbrev pub AloneOf : Found → Field → Result Part NoteError → Type 0
+AloneOf found f (Ok raw) = found ≡ Found.Once raw
+AloneOf found f (Err e) = (found ≡ Found.Repeated) × (e ≡ NoteError.Refused Fault.Repeated f)
 
--- as many trailers as were counted; where there is one, whether its content is good, and then where that stands
-pub record SeenBy (f : Field) (message : List ℕ) (a : Tally) (r : Seen) : Type 0 where
-  pub count_is : r.count ≡ a.count
-  pub order : (r.start ≤ r.end) × (r.end ≤ length message)
-  pub judged : a.count ≡ 1 → r.good ≡ good f (unfolded (raw_in message a))
-  pub place : a.count ≡ 1 → r.good ≡ true → r.start ≡ a.start + kept_at (lines (raw_in message a))
-  pub shown : a.count ≡ 1 → r.good ≡ true → part_in message r ≡ unfolded (raw_in message a)
+abbrev pub Inside : List ℕ → Part → Type 0
+Inside message p = (p.start ≤ p.end) × (p.end ≤ length message)
 
--- all three are looked for first, then repeats, then contents
-abbrev pub verdict_of : Seen → Seen → Seen → Verdict
-verdict_of v r s =
-    if eqb v.count 0 then Verdict.Refused Fault.Missing Field.Vehicle
-    else if eqb r.count 0 then Verdict.Refused Fault.Missing Field.Records
-    else if eqb s.count 0 then Verdict.Refused Fault.Missing Field.OffloadState
-    else if not (eqb v.count 1) then Verdict.Refused Fault.Repeated Field.Vehicle
-    else if not (eqb r.count 1) then Verdict.Refused Fault.Repeated Field.Records
-    else if not (eqb s.count 1) then Verdict.Refused Fault.Repeated Field.OffloadState
-    else if not v.good then Verdict.Refused Fault.BadContent Field.Vehicle
-    else if not r.good then Verdict.Refused Fault.BadContent Field.Records
-    else if not s.good then Verdict.Refused Fault.BadContent Field.OffloadState
-    else Verdict.Good
+-- `p` is the content of the raw value, and good
+pub record IsContent (f : Field) (message : List ℕ) (raw p : Part) : Type 0 where
+  pub inside : Inside message p
+  pub is_good : good f (unfolded (part_in message raw)) ≡ true
+  pub place : p.start ≡ raw.start + kept_at (lines (part_in message raw))
+  pub shown : part_in message p ≡ unfolded (part_in message raw)
+
+abbrev pub ContentOf : Field → List ℕ → Part → Result Part NoteError → Type 0
+ContentOf f message raw (Ok p) = IsContent f message raw p
+ContentOf f message raw (Err e) = (good f (unfolded (part_in message raw)) ≡ false) × (e ≡ NoteError.Refused Fault.BadContent f)

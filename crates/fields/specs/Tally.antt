@@ -1,39 +1,35 @@
--- A field's trailers counted one after the other: how many there are, and where the raw value of the last one stands.
-use Rattle.std.specs.Prelude.{Bool, true, false, List, [], ◌∷◌, ◌≡◌, ℕ, ◌+◌, ◌≤◌, length}
+-- What is found of a field among trailers: none with its name; one, and where its raw value stands; or more.
+use Rattle.std.specs.Prelude.{Bool, true, false, List, [], ◌∷◌, ◌≡◌, Option, Some, None}
 use Rattle.rules.specs.Trailer.{Trailer, raw_value_at, end_of, those}
+use Rattle.rules.specs.declared.Part.{Part}
 use Rattle.closing.specs.Closing.{has}
 use Rattle.closing.specs.declared.Field.{Field}
+use Rattle.fields.specs.declared.tally.Found.{Found}
 use Rattle.fields.specs.declared.tally.Tallies.{Tallies}
-use Rattle.fields.specs.declared.tally.Tally.{Tally}
 
-abbrev pub no_tally : Tally
-no_tally = record { count = 0; start = 0; end = 0 }
+abbrev pub raw_part : Trailer → Part
+raw_part t = record { start = raw_value_at t; end = end_of t }
 
--- one more, if it has the name
-abbrev pub counted : Tally → Bool → ℕ → ℕ → Tally
-counted a true start end = record { count = a.count + 1; start = start; end = end }
-counted a false start end = a
+-- of all of some trailers
+abbrev pub found_of : List Trailer → Option Found
+found_of [] = None
+found_of (t ∷ []) = Some (Found.Once (raw_part t))
+found_of (t ∷ u ∷ ts) = Some Found.Repeated
 
-abbrev pub counted_by : Tallies → List ℕ → ℕ → ℕ → Tallies
-counted_by a token start end = record {
-  vehicle = counted a.vehicle (has Field.Vehicle token) start end;
-  records = counted a.records (has Field.Records token) start end;
-  state = counted a.state (has Field.OffloadState token) start end;
-}
-
--- all of them
-abbrev pub tallied : Tally → List Trailer → Tally
-tallied a [] = a
-tallied a (t ∷ ts) = tallied (counted a true (raw_value_at t) (end_of t)) ts
-
-abbrev pub tally_of : Field → List Trailer → Tally
-tally_of f ts = tallied no_tally (those (has f) ts)
+-- of those that have the field's name
+abbrev pub tally_of : Field → List Trailer → Option Found
+tally_of f ts = found_of (those (has f) ts)
 
 pub record TalliesOf (ts : List Trailer) (r : Tallies) : Type 0 where
   pub vehicle_is : r.vehicle ≡ tally_of Field.Vehicle ts
   pub records_is : r.records ≡ tally_of Field.Records ts
   pub state_is : r.state ≡ tally_of Field.OffloadState ts
 
--- one raw value alone stands inside the message
-abbrev pub Inside : List ℕ → Tally → Type 0
-Inside message a = a.count ≡ 1 → (a.start ≤ a.end) × (a.end ≤ length message)
+-- one trailer more, if it has the name
+abbrev pub more : Option Found → Part → Option Found
+more None raw = Some (Found.Once raw)
+more (Some found) raw = Some Found.Repeated
+
+abbrev pub counted : Option Found → Bool → Part → Option Found
+counted found true raw = more found raw
+counted found false raw = found

@@ -3,146 +3,77 @@ ghost use Rattle.std.specs.Prelude.{◌≡◌, ◌≤◌, length};
 ghost use Rattle.rules.specs.Trailer.{walk_from};
 ghost use Rattle.closing.specs.Answers.{note_found_says, note_said};
 ghost use Rattle.closing.specs.Closing.{answer};
-ghost use Rattle.fields.specs.Note.{SeenBy, verdict_of};
-ghost use Rattle.fields.specs.Tally.{Inside};
+ghost use Rattle.fields.specs.Note.{AloneOf, ContentOf, Inside, PresentOf};
 
 use crate::sole::sole_line;
-use crate::tally::{Tally, tally_fields};
-use closing::{Fault, Field, NoteFound};
+use crate::tally::{Found, tally_fields};
+use closing::{Fault, Field, Note, NoteError};
 use content::{is_complete, is_good, number_of};
 use rules::Part;
 
-// A field as it is seen among the trailers: how many have its name, and where one alone has, its content's place and whether that
-// is good.
-#[derive(Clone, Copy)]
-pub struct Seen {
-    pub count: usize,
-    pub start: usize,
-    pub end: usize,
-    pub good: bool,
-}
-
-// The first refusal, or none.
-#[derive(Drop)]
-pub enum Verdict {
-    Refused { fault: Fault, field: Field },
-    Good,
-}
-
-// A field as its tally shows it.
-fn see(message: &[u8], tally: Tally, field: Field) -> Seen
-    requires { Inside message.now tally }
-    ensures { SeenBy field message.now tally result }
+// A field's trailers; refused where there is none.
+fn present(found: Option<Found>, field: Field) -> Result<Found, NoteError>
+    ensures { PresentOf found field result }
 {
-    if tally.count != 1 {
-        return Seen {
-            count: tally.count,
-            start: 0,
-            end: 0,
-            good: false,
-        };
-    }
-    let from = tally.start;
-    let to = tally.end;
-    let part = sole_line(&message[from..to]);
-    let start = from + part.start;
-    let end = from + part.end;
-    let good = is_good(field, &message[start..end]);
-    Seen {
-        count: 1,
-        start,
-        end,
-        good,
-    }
+    found.ok_or(NoteError::Refused {
+        fault: Fault::Missing,
+        field,
+    })
 }
 
-// The first refusal that holds: all three are looked for first, then repeats, then contents.
-fn first_fault(vehicle: Seen, records: Seen, state: Seen) -> Verdict
-    ensures { result ≡ verdict_of vehicle records state }
+// Where the raw value of a field's one trailer stands; refused where there are more.
+fn alone(found: Found, field: Field) -> Result<Part, NoteError>
+    ensures { AloneOf found field result }
 {
-    if vehicle.count == 0 {
-        return Verdict::Refused {
-            fault: Fault::Missing,
-            field: Field::Vehicle,
-        };
-    }
-    if records.count == 0 {
-        return Verdict::Refused {
-            fault: Fault::Missing,
-            field: Field::Records,
-        };
-    }
-    if state.count == 0 {
-        return Verdict::Refused {
-            fault: Fault::Missing,
-            field: Field::OffloadState,
-        };
-    }
-    if vehicle.count != 1 {
-        return Verdict::Refused {
+    match found {
+        Found::Once(raw) => Ok(raw),
+        Found::Repeated => Err(NoteError::Refused {
             fault: Fault::Repeated,
-            field: Field::Vehicle,
-        };
+            field,
+        }),
     }
-    if records.count != 1 {
-        return Verdict::Refused {
-            fault: Fault::Repeated,
-            field: Field::Records,
-        };
-    }
-    if state.count != 1 {
-        return Verdict::Refused {
-            fault: Fault::Repeated,
-            field: Field::OffloadState,
-        };
-    }
-    if !vehicle.good {
-        return Verdict::Refused {
-            fault: Fault::BadContent,
-            field: Field::Vehicle,
-        };
-    }
-    if !records.good {
-        return Verdict::Refused {
-            fault: Fault::BadContent,
-            field: Field::Records,
-        };
-    }
-    if !state.good {
-        return Verdict::Refused {
-            fault: Fault::BadContent,
-            field: Field::OffloadState,
-        };
-    }
-    Verdict::Good
 }
 
-// The closing note of the trailers of the walk from `at` on, or the first refusal.
-pub fn note_from(message: &[u8], at: usize) -> NoteFound
+// Where the content of a raw value stands; refused where it is not good for the field.
+fn content(message: &[u8], raw: Part, field: Field) -> Result<Part, NoteError>
+    requires { Inside message.now raw }
+    ensures { ContentOf field message.now raw result }
+{
+    let value = &message[raw.start..raw.end];
+    match sole_line(value) {
+        Some(part) if is_good(field, &value[part.start..part.end]) => {
+            let start = raw.start + part.start;
+            let end = raw.start + part.end;
+            Ok(Part { start, end })
+        }
+        _ => Err(NoteError::Refused {
+            fault: Fault::BadContent,
+            field,
+        }),
+    }
+}
+
+// The closing note of the trailers of the walk from `at` on, or the first refusal: all three fields are looked for first, then
+// repeats, then contents.
+pub fn note_from(message: &[u8], at: usize) -> Result<Note, NoteError>
     requires { at ≤ length message.now }
     ensures { note_found_says result ≡ note_said (walk_from message.now at) (answer (walk_from message.now at)) }
 {
     let tallies = tally_fields(message, at);
-    let v = see(message, tallies.vehicle, Field::Vehicle);
-    let r = see(message, tallies.records, Field::Records);
-    let s = see(message, tallies.state, Field::OffloadState);
-    match first_fault(v, r, s) {
-        Verdict::Refused { fault, field } => NoteFound::Refused { fault, field },
-        Verdict::Good => {
-            let from = r.start;
-            let to = r.end;
-            let records = number_of(&message[from..to]);
-            let word = s.start;
-            let stop = s.end;
-            let complete = is_complete(&message[word..stop]);
-            let start = v.start;
-            let end = v.end;
-            let vehicle = Part { start, end };
-            NoteFound::Note {
-                vehicle,
-                records,
-                complete,
-            }
-        }
-    }
+    let vehicle_found = present(tallies.vehicle, Field::Vehicle)?;
+    let records_found = present(tallies.records, Field::Records)?;
+    let state_found = present(tallies.state, Field::OffloadState)?;
+    let vehicle_raw = alone(vehicle_found, Field::Vehicle)?;
+    let records_raw = alone(records_found, Field::Records)?;
+    let state_raw = alone(state_found, Field::OffloadState)?;
+    let vehicle = content(message, vehicle_raw, Field::Vehicle)?;
+    let records = content(message, records_raw, Field::Records)?;
+    let state = content(message, state_raw, Field::OffloadState)?;
+    let count = number_of(&message[records.start..records.end]);
+    let complete = is_complete(&message[state.start..state.end]);
+    Ok(Note {
+        vehicle,
+        records: count,
+        complete,
+    })
 }

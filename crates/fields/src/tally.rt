@@ -1,27 +1,27 @@
-// How often each field's name occurs among the trailers of a walk, counted in one pass.
-ghost use Rattle.std.specs.Prelude.{◌≡◌, ◌≤◌, ◌<◌, ◌^◌, length};
+// What is found of each field's name among the trailers of a walk, in one pass.
+ghost use Rattle.std.specs.Prelude.{◌≡◌, ◌≤◌, length};
 ghost use Rattle.rules.specs.Trailer.{walk_from};
 ghost use Rattle.closing.specs.Closing.{has};
-ghost use Rattle.fields.specs.Tally.{TalliesOf, counted, counted_by};
+ghost use Rattle.fields.specs.Tally.{TalliesOf, counted};
 
 use closing::Field;
+use rules::Part;
 use text::fixed::eq_ignore_ascii_case;
-use trailer::walk::{NextTrailer, next_trailer_from};
+use trailer::walk::next_trailer_from;
 
-// How many trailers have a name, and where the raw value of the last of them stands.
+// The trailers with a name: one alone, whose raw value stands there, or more.
 #[derive(Clone, Copy)]
-pub struct Tally {
-    pub count: usize,
-    pub start: usize,
-    pub end: usize,
+pub enum Found {
+    Once(Part),
+    Repeated,
 }
 
-// One for each field.
-#[derive(Drop)]
+// Those of each field; none where no trailer has its name.
+#[derive(Clone, Copy)]
 pub struct Tallies {
-    pub vehicle: Tally,
-    pub records: Tally,
-    pub state: Tally,
+    pub vehicle: Option<Found>,
+    pub records: Option<Found>,
+    pub state: Option<Found>,
 }
 
 // Whether a token is the field's name, ASCII case aside.
@@ -35,61 +35,45 @@ fn is_field(field: Field, token: &[u8]) -> bool
     }
 }
 
-// One trailer more, if it has the name.
-fn count_one(tally: Tally, named: bool, start: usize, end: usize) -> Tally
-    requires { tally.count < 2 ^ 63 }
-    ensures { result ≡ counted tally named start end }
+// One trailer more, if its token is the field's name.
+fn count(found: Option<Found>, field: Field, token: &[u8], raw: Part) -> Option<Found>
+    ensures { result ≡ counted found (has field token.now) raw }
 {
-    if named {
-        let count = tally.count + 1;
-        return Tally { count, start, end };
+    if !is_field(field, token) {
+        return found;
     }
-    tally
-}
-
-// One trailer more, for the field whose name its token is; its raw value stands from `start` up to `end`.
-fn count_trailer(tallies: Tallies, token: &[u8], start: usize, end: usize) -> Tallies
-    requires { (tallies.vehicle.count < 2 ^ 63) × (tallies.records.count < 2 ^ 63) × (tallies.state.count < 2 ^ 63) }
-    ensures { result ≡ counted_by tallies token.now start end }
-{
-    let is_vehicle = is_field(Field::Vehicle, token);
-    let is_records = is_field(Field::Records, token);
-    let is_state = is_field(Field::OffloadState, token);
-    let vehicle = count_one(tallies.vehicle, is_vehicle, start, end);
-    let records = count_one(tallies.records, is_records, start, end);
-    let state = count_one(tallies.state, is_state, start, end);
-    Tallies {
-        vehicle,
-        records,
-        state,
+    match found {
+        None => Some(Found::Once(raw)),
+        Some(_) => Some(Found::Repeated),
     }
 }
 
-// The tallies of the walk from `at` on.
+// What is found in the walk from `at` on.
 pub fn tally_fields(message: &[u8], at: usize) -> Tallies
     requires { at ≤ length message.now }
     ensures { TalliesOf (walk_from message.now at) result }
 {
-    let none = Tally {
-        count: 0,
-        start: 0,
-        end: 0,
-    };
     let mut tallies = Tallies {
-        vehicle: none,
-        records: none,
-        state: none,
+        vehicle: None,
+        records: None,
+        state: None,
     };
     let mut from = at;
-    loop {
-        let NextTrailer::Trailer(places) = next_trailer_from(message, from) else {
-            return tallies;
+    while let Some(places) = next_trailer_from(message, from) {
+        let token = &message[places.start..places.token_end];
+        let raw = Part {
+            start: places.value_start,
+            end: places.end,
         };
-        let start = places.start;
-        let token_end = places.token_end;
-        let value_start = places.value_start;
-        let end = places.end;
-        tallies = count_trailer(tallies, &message[start..token_end], value_start, end);
-        from = end;
+        let vehicle = count(tallies.vehicle, Field::Vehicle, token, raw);
+        let records = count(tallies.records, Field::Records, token, raw);
+        let state = count(tallies.state, Field::OffloadState, token, raw);
+        tallies = Tallies {
+            vehicle,
+            records,
+            state,
+        };
+        from = places.end;
     }
+    tallies
 }

@@ -1,8 +1,8 @@
 -- What a step that finds a trailer tells of the walk, how the walk to a wanted one goes on from there, and which one is the last.
 -- Assumes nothing.
+use Rattle.std.specs.Prelude.{Option, None, Some}
 use mathlib.Core.Bool.{Bool, true, false}
 use mathlib.Core.List.{List, [], ◌∷◌}
-use mathlib.Core.Option.{Option, none, some}
 use mathlib.Core.Path.{◌≡◌, refl, sym, ap, ◌∙◌}
 use Prim.Native.Nat.{ℕ, ◌-◌, ◌≤◌, ◌<◌}
 use native.Mathlib.Omega.{arith}
@@ -14,23 +14,22 @@ use Rattle.rules.specs.Trailer.{Trailer, asked, end_of, finally, lookup, those, 
 use Rattle.rules.specs.declared.Places.{Places}
 use Rattle.trailer.proofs.Steps.{First, first_is, none_is}
 use Rattle.trailer.specs.Walk.{next_of}
-use Rattle.trailer.specs.declared.walk.NextTrailer.{NextTrailer}
 use Rattle.filter.specs.Lookup.{looked_up}
 
 -- where a step finds none, none is wanted
-pub none_wanted : (passes : List ℕ → Bool) (ts : List Trailer) → next_of ts ≡ NextTrailer.End → NextTrailer.End ≡ next_of (those passes ts)
+pub none_wanted : (passes : List ℕ → Bool) (ts : List Trailer) → next_of ts ≡ None → None ≡ next_of (those passes ts)
 none_wanted passes ts q = rw (none_is ts q)
 
 -- A step from `at` on has found a trailer at the places `p`: they are inside the body, and the walk moves on. It is the answer if
 -- its token is wanted; else the answer is that of the walk from its end on.
-pub record Found (passes : List ℕ → Bool) (body : List ℕ) (at : ℕ) (p : Places) : Type 0 where
+pub record Found (body : List ℕ) (at : ℕ) (p : Places) : Type 0 where
   pub order : (p.start ≤ p.token_end) × (p.token_end ≤ p.end) × (at < p.end) × (p.end ≤ length body)
-  pub kept : passes (take (p.token_end - p.start) (drop p.start body)) ≡ true
-      → NextTrailer.Trailer p ≡ next_of (those passes (walk_from body at))
-  pub passed : passes (take (p.token_end - p.start) (drop p.start body)) ≡ false
+  pub kept : (passes : List ℕ → Bool) → passes (take (p.token_end - p.start) (drop p.start body)) ≡ true
+      → Some p ≡ next_of (those passes (walk_from body at))
+  pub passed : (passes : List ℕ → Bool) → passes (take (p.token_end - p.start) (drop p.start body)) ≡ false
       → next_of (those passes (walk_from body p.end)) ≡ next_of (those passes (walk_from body at))
 
-module _ (passes : List ℕ → Bool) (body : List ℕ) (at : ℕ) {p : Places} (q : next_of (walk_from body at) ≡ NextTrailer.Trailer p) where
+module _ (body : List ℕ) (at : ℕ) {p : Places} (q : next_of (walk_from body at) ≡ Some p) where
   first : First (walk_from body at) p
   first = first_is (walk_from body at) q
 
@@ -44,42 +43,42 @@ module _ (passes : List ℕ → Bool) (body : List ℕ) (at : ℕ) {p : Places} 
   list : walk_from body at ≡ t ∷ walk_from body (end_of t)
   list = cc (first.walked, walk_step body at t first.later first.walked)
 
-  pub found : Found passes body at p
+  pub found : Found body at p
   found =
       let end : p.end ≡ end_of t = ap (λ (at : Places). at.end) first.places in
       let token = token_is there first.places in
       record {
         order = omega (arith, end, places_fit there first.places, walk_moves body at t first.later first.walked);
-        kept = λ k. sym q ∙ rw (list, rw token at k);
-        passed = λ k. ap (λ (e : ℕ). next_of (those passes (walk_from body e))) end ∙ rw (list, rw token at k);
+        kept = λ passes k. sym q ∙ rw (list, rw token at k);
+        passed = λ passes k. ap (λ (e : ℕ). next_of (those passes (walk_from body e))) end ∙ rw (list, rw token at k);
       }
 
 -- ---- the last that has the name
 
 -- what the trailers from a place on give, where `last` was found before it
-abbrev pub or_last : Option Trailer → NextTrailer → NextTrailer
-or_last none last = last
-or_last (some t) last = looked_up (some t)
+abbrev pub or_last : Option Trailer → Option Places → Option Places
+or_last None last = last
+or_last (Some t) last = looked_up (Some t)
 
-or_first : (t : Trailer) (ts : List Trailer) (last : NextTrailer) → or_last (finally ts) (next_of (t ∷ [])) ≡ or_last (finally (t ∷ ts)) last
+or_first : (t : Trailer) (ts : List Trailer) (last : Option Places) → or_last (finally ts) (next_of (t ∷ [])) ≡ or_last (finally (t ∷ ts)) last
 or_first t [] last = refl
 or_first t (u ∷ ts) last = some_last u ts (next_of (t ∷ [])) last
   where
-    some_last : (u : Trailer) (ts : List Trailer) (a b : NextTrailer) → or_last (finally (u ∷ ts)) a ≡ or_last (finally (u ∷ ts)) b
+    some_last : (u : Trailer) (ts : List Trailer) (a b : Option Places) → or_last (finally (u ∷ ts)) a ≡ or_last (finally (u ∷ ts)) b
     some_last u [] a b = refl
     some_last u (v ∷ ts) a b = some_last v ts a b
 
-pub last_start : (o : Option Trailer) → or_last o NextTrailer.End ≡ looked_up o
-last_start none = refl
-last_start (some t) = refl
+pub last_start : (o : Option Trailer) → or_last o None ≡ looked_up o
+last_start None = refl
+last_start (Some t) = refl
 
 -- a step to one that has the name: it is inside the body, and takes the place of what was found before it
-pub record Nearer (name body : List ℕ) (at : ℕ) (last : NextTrailer) (p : Places) : Type 0 where
+pub record Nearer (name body : List ℕ) (at : ℕ) (last : Option Places) (p : Places) : Type 0 where
   pub ahead : (at < p.end) × (p.end ≤ length body)
-  pub latest : or_last (lookup name (walk_from body p.end)) (NextTrailer.Trailer p) ≡ or_last (lookup name (walk_from body at)) last
+  pub latest : or_last (lookup name (walk_from body p.end)) (Some p) ≡ or_last (lookup name (walk_from body at)) last
 
-pub nearer : (name body : List ℕ) (at : ℕ) (last : NextTrailer) {p : Places}
-    → next_of (those (asked name) (walk_from body at)) ≡ NextTrailer.Trailer p → Nearer name body at last p
+pub nearer : (name body : List ℕ) (at : ℕ) (last : Option Places) {p : Places}
+    → next_of (those (asked name) (walk_from body at)) ≡ Some p → Nearer name body at last p
 nearer name body at last {p} q =
     let f = first_is (those (asked name) (walk_from body at)) q in
     let (others, moves, within) = those-steps body (asked name) at (walk_from body at) f.found f.later refl f.walked in
@@ -90,6 +89,6 @@ nearer name body at last {p} q =
     behind t us walked places others moves within =
         rw places (record { ahead = (moves, within); latest = rw (others, walked) (or_first t us last) })
 
-pub none_nearer : (name body : List ℕ) (at : ℕ) (last : NextTrailer) → next_of (those (asked name) (walk_from body at)) ≡ NextTrailer.End
+pub none_nearer : (name body : List ℕ) (at : ℕ) (last : Option Places) → next_of (those (asked name) (walk_from body at)) ≡ None
     → last ≡ or_last (lookup name (walk_from body at)) last
 none_nearer name body at last q = rw (none_is (those (asked name) (walk_from body at)) q)

@@ -3,17 +3,18 @@
 
 pub mod token;
 
-ghost use Rattle.std.specs.Prelude.{◌≡◌, ◌≤◌, length};
-ghost use Rattle.rules.specs.Trailer.{attribution, author, is_of, lookup, only, those, walk_from};
+ghost use Rattle.std.specs.Fn.{FnReturnsAt};
+ghost use Rattle.std.specs.Prelude.{Bool, List, ◌≡◌, ℕ, ◌≤◌, length};
+ghost use Rattle.rules.specs.Trailer.{asked, attribution, author, is_of, lookup, only, those, walk_from};
 ghost use Rattle.trailer.specs.Walk.{next_of};
-ghost use Rattle.filter.specs.Lookup.{is_wanted, looked_up};
+ghost use Rattle.filter.specs.Lookup.{Computes, looked_up};
 
 use crate::token::{
     is_acked_by, is_assisted_by, is_co_authored_by, is_reviewed_by, is_signed_off_by, is_tested_by,
 };
-use rules::Kind;
+use rules::{Kind, Places};
 use text::fixed::eq_ignore_ascii_case;
-use trailer::walk::{NextTrailer, next_trailer_from};
+use trailer::walk::next_trailer_from;
 
 // Whether a token is one of the two that name an author.
 fn is_author(token: &[u8]) -> bool
@@ -51,64 +52,47 @@ pub fn is_of(kind: Kind, token: &[u8]) -> bool
     }
 }
 
-// What a trailer is wanted by: the kind of its token, or the name that is lent beside.
-#[derive(Clone, Copy)]
-enum Wanted {
-    OfKind(Kind),
-    Named,
-}
-
-// Whether a token is wanted. A name is compared ASCII case aside; an empty name is no token's.
-fn is_wanted(wanted: Wanted, name: &[u8], token: &[u8]) -> bool
-    ensures { result ≡ is_wanted wanted name.now token.now }
+// Whether a token has the name, ASCII case aside. An empty name is no token's.
+fn is_named(name: &[u8], token: &[u8]) -> bool
+    ensures { result ≡ asked name.now token.now }
 {
-    match wanted {
-        Wanted::OfKind(kind) => is_of(kind, token),
-        Wanted::Named => name.len() != 0 && eq_ignore_ascii_case(name, token),
-    }
+    !name.is_empty() && eq_ignore_ascii_case(name, token)
 }
 
 // The first trailer of the walk from `at` on whose token is wanted; the others are passed over.
-fn next_wanted(body: &[u8], at: usize, wanted: Wanted, name: &[u8]) -> NextTrailer
-    requires { at ≤ length body.now }
-    ensures { result ≡ next_of (those (is_wanted wanted name.now) (walk_from body.now at)) }
+fn next_wanted<F: Fn(&[u8]) -> bool>(body: &[u8], at: usize, is_wanted: F) -> Option<Places>
+    requires callable { F.IsAlwaysCallable is_wanted }
+    requires at_in_bounds { at ≤ length body.now }
+    ensures { (passes : List ℕ → Bool) → Computes (FnReturnsAt F.Fn is_wanted) passes → result ≡ next_of (those passes (walk_from body.now at)) }
 {
     let mut from = at;
     loop {
-        let found = next_trailer_from(body, from);
-        let NextTrailer::Trailer(places) = found else {
-            return NextTrailer::End;
-        };
-        let start = places.start;
-        let token_end = places.token_end;
-        if is_wanted(wanted, name, &body[start..token_end]) {
-            return found;
+        let places = next_trailer_from(body, from)?;
+        if is_wanted(&body[places.start..places.token_end]) {
+            return Some(places);
         }
         from = places.end;
     }
 }
 
 // The first trailer of the walk from `at` on whose token is of the kind.
-pub fn next_of(body: &[u8], at: usize, kind: Kind) -> NextTrailer
+pub fn next_of(body: &[u8], at: usize, kind: Kind) -> Option<Places>
     requires { at ≤ length body.now }
     ensures { result ≡ next_of (only kind (walk_from body.now at)) }
 {
-    next_wanted(body, at, Wanted::OfKind(kind), b"")
+    next_wanted(body, at, |token| is_of(kind, token))
 }
 
 // The last trailer of the walk from `at` on that has the name: each that has it takes the place of the one before.
-pub fn find_named(body: &[u8], at: usize, name: &[u8]) -> NextTrailer
+pub fn find_named(body: &[u8], at: usize, name: &[u8]) -> Option<Places>
     requires { at ≤ length body.now }
     ensures { result ≡ looked_up (lookup name.now (walk_from body.now at)) }
 {
-    let mut last = NextTrailer::End;
-    let mut behind = at;
-    loop {
-        let found = next_wanted(body, behind, Wanted::Named, name);
-        let NextTrailer::Trailer(places) = found else {
-            return last;
-        };
-        last = found;
-        behind = places.end;
+    let mut last = None;
+    let mut next = at;
+    while let Some(places) = next_wanted(body, next, |token| is_named(name, token)) {
+        last = Some(places);
+        next = places.end;
     }
+    last
 }

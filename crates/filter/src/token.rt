@@ -1,4 +1,4 @@
-// The six attribution tokens, ASCII case aside. Each has eight to sixteen bytes, and its first eight and its last eight tell it. Of those that are
+// The six attribution tokens, ASCII case aside. Each has eight to sixteen bytes, and is known by its first eight and its last eight. Of those that are
 // written out here the compiler makes numbers.
 ghost use Rattle.std.specs.Prelude.{List, ◌≡◌, ℕ, ◌-◌, ◌≤◌, length, take, drop};
 ghost use Rattle.rules.specs.Bytes.{lower};
@@ -11,7 +11,7 @@ use word::word;
 const WORD: usize = 8;
 
 // A word with its ASCII capitals as small letters. Each byte, without its highest bit, carries into it in two sums: in one from `A` on, in the
-// other from the byte behind `Z` on. For a capital only one of them carries, and a small letter has a quarter of that bit more.
+// other from the byte after `Z` on. For a capital only one of them carries, and a small letter has a quarter of that bit more.
 fn lowered(word: u64) -> u64
     ensures { (s : List ℕ) → length s ≡ 8 → Bytes s → word ≡ packed s → result ≡ each lower s }
 {

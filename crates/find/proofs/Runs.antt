@@ -1,14 +1,15 @@
--- Runs without an LF: a search goes on behind them, forward and backward. Assumes nothing.
+-- Runs without an LF: a search goes on after them, forward and backward. Assumes nothing.
 use Rattle.std.specs.Prelude.{if◌then◌else◌}
-use mathlib.Core.Bool.{Bool, true, false, false≢true, or_assoc, or-false, ◌||◌}
-use mathlib.Core.List.{List, [], ◌∷◌}
+use mathlib.Core.Bool.{Bool, true, false, or_assoc, or-false, ◌||◌}
+use mathlib.Core.List.{List, [], ◌∷◌, ◌++◌, append_assoc}
 use mathlib.Core.Path.{◌≡◌, refl, sym, ap, ◌∙◌}
 use Prim.Native.Nat.{ℕ, zero, suc, ◌+◌, ◌-◌, ◌≤◌, ◌<◌}
-use native.Mathlib.Numerals.{add-one, sub-one}
+use native.Mathlib.Numerals.{sub-one}
 use native.Mathlib.Omega.{arith}
 use borrow.Author.Tests.{eq-eqb, ne_eqb}
-use lib.ListN.{length, take, drop, get_or, drop_of_length-le, length-drop}
-use lib.Seq.{drop-cons, drop-drop}
+use lib.ListN.{length, take, drop, get_or, length-append, length-drop}
+use lib.Seq.{drop-append_seam, drop-cons, drop-drop, length-take-le, take-append_seam, take-take, take_all}
+use Rattle.std.proofs.lemmas.List.{drop-take}
 use mir.Val.{bool_byte}
 use Rattle.rules.proofs.Lists.{or_none}
 use Rattle.rules.proofs.Number.{feeds_split}
@@ -23,16 +24,6 @@ pub any_next : (p : ℕ → Bool) (s : List ℕ) (i : ℕ) → i < length s → 
 any_next p [] i h = absurd (omega arith)
 any_next p (x ∷ s) zero h = or-false (p x)
 any_next p (x ∷ s) (suc i) h = ap (λ (b : Bool). p x || b) (any_next p s i (omega arith)) ∙ sym (or_assoc (p x) (any p (take i s)) (p (get_or s i 0)))
-
--- one byte more of a search forward: an LF, another byte, none
-pub ends : (s : List ℕ) (i : ℕ) → i < length s → get_or s i 0 ≡ LF → until_lf (drop i s) ≡ 0
-ends s i h e = rw (drop-cons s i 0, eq-eqb _ _ e)
-
-pub goes : (s : List ℕ) (i : ℕ) → i < length s → (get_or s i 0 ≡ LF → ⊥) → until_lf (drop i s) ≡ suc (until_lf (drop (i + 1) s))
-goes s i h n = rw (add-one i, drop-cons s i 0, ne_eqb _ _ n)
-
-pub over : (s : List ℕ) (i : ℕ) → length s ≤ i → until_lf (drop i s) ≡ 0
-over s i h = rw (drop_of_length-le s h)
 
 -- a run is a part of what is searched: of `k` bytes from `i` on
 pub past_run : (k : ℕ) (s : List ℕ) (i : ℕ) → i + k ≤ length s → any is_lf (take k (drop i s)) ≡ false
@@ -77,6 +68,22 @@ unfolding behind_lf
 none s zero h = refl
 none s (suc k) h = absurd (omega arith)
 
+-- ---- a run that is cut off what is left, at its front or at its end
+
+pub cut : {k : ℕ} {s p t : List ℕ} → s ≡ p ++ t → length p ≡ k → (k ≤ length s) × (take k s ≡ p) × (drop k s ≡ t)
+cut {k} {s} {p} {t} e h = (omega (arith, ap length e, length-append p t), rw (e, ← h, take-append_seam), rw (e, ← h, drop-append_seam))
+
+-- what `rchunks_exact` cuts off at the end of the first n bytes
+pub cut_back : (s rem rest rem' rest' chunk : List ℕ) {k n : ℕ} → n ≤ length s → rem ++ rest ≡ take n s → rem' ≡ rem → rest ≡ rest' ++ chunk
+    → length chunk ≡ k → (k ≤ n) × (take (n - k) s ≡ rem' ++ rest') × (take k (drop (n - k) s) ≡ chunk)
+cut_back s rem rest rem' rest' chunk {k} {n} w l r e h =
+    let parts : take n s ≡ (rem' ++ rest') ++ chunk = rw (r, append_assoc, ← e) (sym l) in
+    let size : length (rem' ++ rest') + k ≡ n = omega (arith, ap length parts, length-append (rem' ++ rest') chunk, length-take-le n s w) in
+    let front : length (rem' ++ rest') ≡ n - k = omega arith in
+    let whole : n - k + k ≡ n = omega arith in
+    let c = cut parts front in
+    (omega arith, sym (take-take (n - k) n s (omega arith)) ∙ c.1, sym (rw whole at (drop-take (n - k) k s)) ∙ c.2)
+
 -- ---- the end of a search forward
 
 pub until_fits : (s : List ℕ) (i : ℕ) → i ≤ length s → i + until_lf (drop i s) ≤ length s
@@ -105,22 +112,9 @@ past_end s j i h k e =
     all [] e = refl
     all (x ∷ t) e = let n = or_none (is_lf x) (any is_lf t) e in rw n.0 (ap suc (all t n.1))
 
--- an LF in the run at `i` is the next one
-pub in_run : (k : ℕ) (s : List ℕ) (i : ℕ) → any is_lf (take k (drop i s)) ≡ true → until_lf (take k (drop i s)) ≡ until_lf (drop i s)
-in_run k s i e = among (drop i s) k e
-  where
-    among : (t : List ℕ) (k : ℕ) → any is_lf (take k t) ≡ true → until_lf (take k t) ≡ until_lf t
-    among t zero e = absurd (false≢true e)
-    among [] (suc k) e = refl
-    among (x ∷ t) (suc k) e = by (is_lf x) refl (among t k)
-      where
-        by : (b : Bool) → is_lf x ≡ b → (any is_lf (take k t) ≡ true → until_lf (take k t) ≡ until_lf t) → until_lf (x ∷ take k t) ≡ until_lf (x ∷ t)
-        by true q r = rw q
-        by false q r = rw q (ap suc (r (rw q at e)))
-
 -- ---- counted
 
-as_byte : (b : Bool) → ((if b then 1 else 0) ≡ bool_byte b) × (bool_byte b ≤ 1)
+pub as_byte : (b : Bool) → ((if b then 1 else 0) ≡ bool_byte b) × (bool_byte b ≤ 1)
 as_byte true = (refl, omega arith)
 as_byte false = (refl, omega arith)
 
@@ -131,9 +125,6 @@ feeds_next [] i h = absurd (omega arith)
 feeds_next (x ∷ s) zero h = (omega (arith, (as_byte (is_lf x)).0), (as_byte (is_lf x)).1)
 feeds_next (x ∷ s) (suc i) h = let r = feeds_next s i (omega arith) in (omega (arith, r.0), r.1)
 
--- a run of k bytes more, of those up to `end`
-pub feeds_run : (k : ℕ) (s : List ℕ) (i end : ℕ) → i + k ≤ end
-    → line_feeds (take (end - i) (drop i s)) ≡ line_feeds (take k (drop i s)) + line_feeds (take (end - (i + k)) (drop (i + k) s))
-feeds_run k s i end h =
-    let left : end - i - k ≡ end - (i + k) = omega arith in
-    rw (left, drop-drop k i s) at (feeds_split (drop i s) k (end - i) (omega arith))
+-- a run of k bytes, and what is left after it
+pub feeds_run : (k : ℕ) (s : List ℕ) → k ≤ length s → line_feeds s ≡ line_feeds (take k s) + line_feeds (drop k s)
+feeds_run k s h = rw (take_all (length s) s (omega arith), rest s k) at (feeds_split s k (length s) h)

@@ -54,7 +54,7 @@ lf_flags w s e h q =
 pub first_lf : (s : List ℕ) → length s ≡ 8 → count_trailing_zeros 64 (each (flag other) s) / 8 ≡ until_lf s
 first_lf s e = before_flag other s e
 
--- ---- behind the last LF
+-- ---- after the last LF
 
 -- one byte more at the front
 front : (x : ℕ) (s : List ℕ) (i : ℕ) → behind_lf (x ∷ s) (suc i) ≡ next (behind_lf s i) (other x)
@@ -90,7 +90,7 @@ behind_fits s (suc n) = by (is_lf (get_or s n 0)) refl (behind_fits s n)
     by true q r = rw q (omega arith)
     by false q r = rw q (omega arith)
 
--- what stands behind does not matter
+-- what stands after it does not matter
 pub behind_taken : (s : List ℕ) (k n : ℕ) → n ≤ k → behind_lf (take k s) n ≡ behind_lf s n
 unfolding behind_lf
 behind_taken s k zero h = refl

@@ -10,11 +10,9 @@ fn count_run(run: &[u8]) -> u8
     requires { length run.now ≤ 128 }
     ensures { result ≡ line_feeds run.now }
 {
-    let mut count: u8 = 0;
-    let mut i = 0;
-    while i < run.len() {
-        count += (run[i] == b'\n') as u8;
-        i += 1;
+    let mut count = 0;
+    for byte in run {
+        count += u8::from(*byte == b'\n');
     }
     count
 }
@@ -24,11 +22,11 @@ pub fn count_lf(s: &[u8], start: usize, end: usize) -> usize
     requires { (start ≤ end) × (end ≤ length s.now) }
     ensures { result ≡ line_feeds (take (end - start) (drop start s.now)) }
 {
+    let mut left = &s[start..end];
     let mut count = 0;
-    let mut i = start;
-    while end - i >= RUN {
-        count += count_run(&s[i..i + RUN]) as usize;
-        i += RUN;
+    while let Some((run, rest)) = left.split_first_chunk::<RUN>() {
+        count += usize::from(count_run(run));
+        left = rest;
     }
-    count + count_run(&s[i..end]) as usize
+    count + usize::from(count_run(left))
 }

@@ -1,7 +1,7 @@
-// The search for an LF, forward and backward. An LF among the next two bytes is told at once. Then whole runs without one are passed over: a
-// run is read to its end, LF or not, so that the compiler reads all of it at once. Where the first 256 bytes have none, the blocks of 256 behind
-// them that have none are passed over in the same way, and the runs go on from there. Where in a run the LF stands is told by its two words. Less than
-// a run is left at the end: the last 16 bytes are read as one run once more, and tell whether it has an LF.
+// The search for an LF, forward and backward. An LF among the next two bytes is found at once. Then whole runs without one are passed over: a
+// run is read to its end, LF or not, so that the compiler reads all of it at once. Where the first 256 bytes have none, the blocks of 256 after
+// them that have none are passed over in the same way, and the runs go on from there. The run's two words show where in it the LF stands. Less than
+// a run is left at the end: the last 16 bytes are read as one run once more, which shows whether an LF is left.
 #![tactic(auto)]
 
 pub mod count;
@@ -11,13 +11,10 @@ ghost use Rattle.rules.specs.Lists.{any};
 ghost use Rattle.word.specs.Word.{Bytes, each, flag, packed};
 ghost use Rattle.find.specs.Find.{behind_lf, is_lf, other, until_lf};
 
-use word::{before_flag, behind_flag, word};
+use word::{WORD, before_flag, behind_flag, word};
 
 // How long a run is.
 const RUN: usize = 16;
-
-// How many bytes a word has.
-const WORD: usize = 8;
 
 // How many bytes a block has.
 const BLOCK: usize = 256;
@@ -27,10 +24,8 @@ fn has_lf(run: &[u8]) -> bool
     ensures { result ≡ any is_lf run.now }
 {
     let mut found = false;
-    let mut i = 0;
-    while i < run.len() {
-        found = found | (run[i] == b'\n');
-        i += 1;
+    for byte in run {
+        found |= *byte == b'\n';
     }
     found
 }
@@ -39,14 +34,9 @@ fn has_lf(run: &[u8]) -> bool
 fn until_lf(part: &[u8]) -> usize
     ensures { result ≡ until_lf part.now }
 {
-    let mut i = 0;
-    while i < part.len() {
-        if part[i] == b'\n' {
-            return i;
-        }
-        i += 1;
-    }
-    i
+    part.iter()
+        .position(|byte| *byte == b'\n')
+        .unwrap_or(part.len())
 }
 
 // The flags of a word's LFs. A byte less LF is 0 for an LF alone, and only then has no bit set: neither its highest, nor the one that its
@@ -85,17 +75,17 @@ fn until_lf_of_part(part: &[u8]) -> usize
 
 // Where the blocks without an LF at the front end: an LF is in the next one, or no whole block is left.
 fn past_blocks(s: &[u8]) -> usize
-    ensures s_value { result + 256 ≤ length s.now → any is_lf (take 256 (drop result s.now)) ≡ true }
-    ensures upper_bound { (result ≤ length s.now) × (result + until_lf (drop result s.now) ≡ until_lf s.now) }
+    ensures stops_at_lf { result + 256 ≤ length s.now → any is_lf (take 256 (drop result s.now)) ≡ true }
+    ensures passes_no_lf { (result ≤ length s.now) × (result + until_lf (drop result s.now) ≡ until_lf s.now) }
 {
-    let mut i = 0;
-    while s.len() - i >= BLOCK {
-        if has_lf(&s[i..i + BLOCK]) {
-            return i;
+    let mut end = 0;
+    for block in s.chunks_exact(BLOCK) {
+        if has_lf(block) {
+            return end;
         }
-        i += BLOCK;
+        end += BLOCK;
     }
-    i
+    end
 }
 
 // The place of the first LF from `at` on; the end where there is none.
@@ -139,24 +129,24 @@ pub fn holds_lf(s: &[u8]) -> bool
 
 // Where the blocks without an LF at the end start: an LF is in the one before, or no whole block is left.
 fn before_blocks(s: &[u8]) -> usize
-    ensures s_value { 256 ≤ result → any is_lf (take 256 (drop (result - 256) s.now)) ≡ true }
-    ensures upper_bound { (result ≤ length s.now) × (behind_lf s.now result ≡ behind_lf s.now (length s.now)) }
+    ensures stops_at_lf { 256 ≤ result → any is_lf (take 256 (drop (result - 256) s.now)) ≡ true }
+    ensures passes_no_lf { (result ≤ length s.now) × (behind_lf s.now result ≡ behind_lf s.now (length s.now)) }
 {
-    let mut i = s.len();
-    while i >= BLOCK {
-        if has_lf(&s[i - BLOCK..i]) {
-            return i;
+    let mut start = s.len();
+    for block in s.rchunks_exact(BLOCK) {
+        if has_lf(block) {
+            return start;
         }
-        i -= BLOCK;
+        start -= BLOCK;
     }
-    i
+    start
 }
 
 // Where the runs without an LF that end at `end` and before each other start: an LF is in the run there, or no whole run is left.
 fn before_runs(s: &[u8], end: usize) -> usize
     requires { end ≤ length s.now }
-    ensures s_value { 16 ≤ result → any is_lf (take 16 (drop (result - 16) s.now)) ≡ true }
-    ensures upper_bound { (result ≤ end) × (behind_lf s.now result ≡ behind_lf s.now end) }
+    ensures stops_at_lf { 16 ≤ result → any is_lf (take 16 (drop (result - 16) s.now)) ≡ true }
+    ensures passes_no_lf { (result ≤ end) × (behind_lf s.now result ≡ behind_lf s.now end) }
 {
     let mut i = end;
     while i >= RUN {
@@ -171,7 +161,7 @@ fn before_runs(s: &[u8], end: usize) -> usize
     i
 }
 
-// The place behind the last LF of a word; 0 where it has none.
+// The place after the last LF of a word; 0 where it has none.
 fn behind_lf_of_word(run: &[u8]) -> usize
     requires { length run.now ≡ 8 }
     ensures { result ≡ behind_lf run.now 8 }
@@ -179,7 +169,7 @@ fn behind_lf_of_word(run: &[u8]) -> usize
     behind_flag(lf_flags(word(run)))
 }
 
-// The place behind the last LF of a run; 0 where it has none.
+// The place after the last LF of a run; 0 where it has none.
 fn behind_lf_of_run(run: &[u8]) -> usize
     requires { length run.now ≡ 16 }
     ensures { result ≡ behind_lf run.now 16 }
@@ -191,22 +181,20 @@ fn behind_lf_of_run(run: &[u8]) -> usize
     behind_lf_of_word(&run[..WORD])
 }
 
-// The place behind the last LF before `end`, byte by byte.
+// The place after the last LF before `end`, byte by byte.
 fn behind_lf_near(s: &[u8], end: usize) -> usize
     requires { end ≤ length s.now }
     ensures { result ≡ behind_lf s.now end }
 {
-    let mut i = end;
-    while i > 0 {
-        if s[i - 1] == b'\n' {
-            return i;
+    for i in (0..end).rev() {
+        if s[i] == b'\n' {
+            return i + 1;
         }
-        i -= 1;
     }
     0
 }
 
-// The place behind the last LF before `end`, by runs.
+// The place after the last LF before `end`, by runs.
 fn behind_lf_far(s: &[u8], end: usize) -> usize
     requires { end ≤ length s.now }
     ensures { result ≡ behind_lf s.now end }
@@ -218,7 +206,7 @@ fn behind_lf_far(s: &[u8], end: usize) -> usize
     behind_lf_near(s, i)
 }
 
-// The place behind the last LF before `end`; 0 where there is none.
+// The place after the last LF before `end`; 0 where there is none.
 pub fn behind_lf(s: &[u8], end: usize) -> usize
     requires { end ≤ length s.now }
     ensures { result ≡ behind_lf s.now end }

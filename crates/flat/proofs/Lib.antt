@@ -1,4 +1,2 @@
--- Laws of records as numbers.
-pub mod Seven
+-- The worked examples hold.
 pub mod Examples
-pub mod Read

@@ -6,9 +6,16 @@ use Rattle.rules.specs.Bytes.{bytes}
 use Rattle.rules.specs.Number.{cursor_at}
 use Rattle.divider.specs.declared.Reading.{Reading}
 use Rattle.planning.specs.Scopes.{scope_answer, scope_buffer, scope_table}
-use Rattle.listing.specs.Turns.{blank}
+use Rattle.rules.specs.Record.{part}
+use Rattle.rules.specs.declared.Ending.{Ending}
+use Rattle.rules.specs.declared.TrailerRef.{TrailerRef}
+use Rattle.rules.specs.declared.Value.{Value}
 use Rattle.planning.specs.declared.Scope.{Scope}
 use Rattle.flat.specs.Flat.{numbers_of}
+
+-- what stands where no record is
+abbrev pub blank : TrailerRef
+blank = record { token = part 0 0; value = Value.InInput (part 0 0); ending = Ending.None; line = 0 }
 
 -- what is listed, the rooms of a table of blank records and the room of a buffer of dots; what is said, the table's records as numbers, and
 -- the buffer: of an input from a place on, or of a message in a reading

@@ -1,3 +1,4 @@
 -- A record as numbers, and a table of them.
 pub mod Flat
+pub mod Seven
 pub mod Examples

@@ -1,7 +1,8 @@
 -- What `find_foot` reads off the last paragraph: its closing blank line is the first of the last bytes, or there is none, exactly where they
 -- are not enough (enough_is); the lines looked at are those from its start on (looked_is); the walk starts where it should (start_is); what stands above
 -- is not looked at (above_unread). What an answer of `find_foot` tells (found_more, found_at). Assumes nothing.
-use Rattle.std.specs.Prelude.{if◌then◌else◌}
+use Rattle.std.specs.Prelude.{None, Some, if◌then◌else◌}
+use Rattle.std.proofs.lemmas.Option.{same_Some}
 use mathlib.Core.Bool.{Bool, true, false, not, ◌&&◌}
 use mathlib.Core.List.{List, [], ◌∷◌, ◌++◌, append_assoc, drop_last}
 use mathlib.Core.Path.{◌≡◌, refl, sym, ap, ◌∙◌}
@@ -28,8 +29,8 @@ use Rattle.paragraph.proofs.Scanned.{drop_last_lem, is_block, paragraph_within}
 use Rattle.paragraph.specs.Scan.{last_paragraph, start_in}
 use Rattle.paragraph.specs.declared.Paragraph.{Paragraph}
 use Rattle.foot.specs.Foot.{foot, foot_enough, looked, settles}
-use Rattle.foot.specs.Found.{foot_found, foot_start, lines_from, walk_start}
-use Rattle.foot.specs.declared.FootFound.{FootFound}
+use Rattle.foot.specs.Found.{foot_at, foot_found, foot_start, lines_from, walk_start}
+use Rattle.foot.specs.declared.Foot.{Foot as Found}
 use Rattle.foot.proofs.Settles.{is_under, looked_below, settles_under}
 use Rattle.foot.proofs.Tells.{foot_tells, whole_answers}
 use Rattle.foot.proofs.Told.{lines_at}
@@ -129,12 +130,12 @@ module _ (tail : List ℕ) (p : Paragraph) (e : p ≡ last_paragraph (parse (lin
 
   -- its answers
   pub more_answer : (whole : Bool) (top : ℕ) → top ≡ line_start tail p.start → (not whole && eqb top 0) ≡ true
-      → FootFound.MoreBytes ≡ foot_found tail whole
+      → None ≡ foot_found tail whole
   more_answer whole top q t = rw (enough_is whole top q, t)
 
   pub found_answer : (whole : Bool) (top at n k : ℕ) → top ≡ line_start tail p.start → (not whole && eqb top 0) ≡ false
       → at ≡ (if is_block p.scan then p.start else length tail) → n ≡ lines_from tail at → k ≡ lines_from tail top
-      → FootFound.At at n k ≡ foot_found tail whole
+      → foot_at at n k ≡ foot_found tail whole
   found_answer whole top at n k q t f g h =
       let enough : foot_enough tail whole ≡ true = enough_is whole top q ∙ ap not t in
       let start : at ≡ foot_start tail = f ∙ sym start_is in
@@ -172,33 +173,40 @@ start_below above below start f =
     (length (above ++ below)) (length below) size (length-append above below))
 
 pub above_unread : (above below : List ℕ) → LineStart above → Foot (lines below)
-    → foot_found (above ++ below) true ≡ FootFound.At (length above + foot_start below) (lines_from below (foot_start below)) (looked (foot below true))
+    → foot_found (above ++ below) true ≡ foot_at (length above + foot_start below) (lines_from below (foot_start below)) (looked (foot below true))
 above_unread above below start f =
     rw (whole_answers (above ++ below), start_below above below start f, drop-append-add above below (foot_start below), lines-append above below start)
-    (ap (FootFound.At (length above + foot_start below) (lines_from below (foot_start below))) (looked_below (lines above) (lines below) f))
+    (ap (foot_at (length above + foot_start below) (lines_from below (foot_start below))) (looked_below (lines above) (lines below) f))
 
 -- ---- what an answer tells
 
-pub found_more : (tail : List ℕ) (whole : Bool) → foot_found tail whole ≡ FootFound.MoreBytes → foot_enough tail whole ≡ false
+pub found_more : (tail : List ℕ) (whole : Bool) → foot_found tail whole ≡ None → foot_enough tail whole ≡ false
 found_more tail whole = by (foot_enough tail whole) refl
   where
     by : (b : Bool) → foot_enough tail whole ≡ b
-        → (if b then FootFound.At (foot_start tail) (lines_from tail (foot_start tail)) (looked (foot tail whole)) else FootFound.MoreBytes) ≡ FootFound.MoreBytes
+        → (if b then foot_at (foot_start tail) (lines_from tail (foot_start tail)) (looked (foot tail whole)) else None) ≡ None
         → foot_enough tail whole ≡ false
-    by true q e = let z : ◌≡◌ {A = ℕ} 0 1 = cc in absurd (omega arith)
+    by true q e = let z : ◌≡◌ {A = ℕ} 0 1 = cc in absurd (omega (arith, z))
     by false q e = q
 
-pub record FoundAt (tail : List ℕ) (whole : Bool) (at lines_there looked-at : ℕ) : Type 0 where
+pub record FoundAt (tail : List ℕ) (whole : Bool) (f : Found) : Type 0 where
   pub is_enough : foot_enough tail whole ≡ true
-  pub at_is : at ≡ foot_start tail
-  pub lines_is : lines_there ≡ lines_from tail (foot_start tail)
-  pub looked_at_is : looked-at ≡ looked (foot tail whole)
+  pub at_is : f.at ≡ foot_start tail
+  pub lines_is : f.lines ≡ lines_from tail (foot_start tail)
+  pub looked_at_is : f.looked ≡ looked (foot tail whole)
 
-pub found_at : (tail : List ℕ) (whole : Bool) {at n k : ℕ} → foot_found tail whole ≡ FootFound.At at n k → FoundAt tail whole at n k
-found_at tail whole {at} {n} {k} = by (foot_enough tail whole) refl
+pub found_at : (tail : List ℕ) (whole : Bool) {f : Found} → foot_found tail whole ≡ Some f → FoundAt tail whole f
+found_at tail whole {f} = by (foot_enough tail whole) refl
   where
     by : (b : Bool) → foot_enough tail whole ≡ b
-        → (if b then FootFound.At (foot_start tail) (lines_from tail (foot_start tail)) (looked (foot tail whole)) else FootFound.MoreBytes) ≡ FootFound.At at n k
-        → FoundAt tail whole at n k
-    by true q e = record { is_enough = q; at_is = cc; lines_is = cc; looked_at_is = cc }
-    by false q e = let z : ◌≡◌ {A = ℕ} 0 1 = cc in absurd (omega arith)
+        → (if b then foot_at (foot_start tail) (lines_from tail (foot_start tail)) (looked (foot tail whole)) else None) ≡ Some f
+        → FoundAt tail whole f
+    by true q e =
+        let is = same_Some _ _ (sym e) in
+        record {
+          is_enough = q;
+          at_is = ap (λ (x : Found). x.at) is;
+          lines_is = ap (λ (x : Found). x.lines) is;
+          looked_at_is = ap (λ (x : Found). x.looked) is;
+        }
+    by false q e = let z : ◌≡◌ {A = ℕ} 0 1 = cc in absurd (omega (arith, z))

@@ -1,11 +1,11 @@
 -- Where `find_foot` finds the foot.
-use Rattle.std.specs.Prelude.{Bool, List, ℕ, length, drop, if◌then◌else◌}
+use Rattle.std.specs.Prelude.{Bool, List, ℕ, length, drop, Option, Some, None, if◌then◌else◌}
 use Rattle.rules.specs.Lines.{lines}
 use Rattle.rules.specs.Lists.{join}
 use Rattle.rules.specs.Paragraph.{Body, empty, ended, above_lines, accepted, parse}
 use Rattle.rules.specs.declared.Cursor.{Cursor}
 use Rattle.foot.specs.Foot.{foot, foot_enough, looked}
-use Rattle.foot.specs.declared.FootFound.{FootFound}
+use Rattle.foot.specs.declared.Foot.{Foot}
 
 -- where the walk of the trailers may begin with no look at what is above the closing blank line: at the last paragraph, where that is a
 -- block, and otherwise at the end
@@ -24,7 +24,10 @@ foot_cursor tail = record { at = foot_start tail; line = 1 }
 abbrev pub lines_from : List ℕ → ℕ → ℕ
 lines_from s at = length (lines (drop at s))
 
-abbrev pub foot_found : List ℕ → Bool → FootFound
+abbrev pub foot_at : ℕ → ℕ → ℕ → Option Foot
+foot_at at lines looked-at = Some (record { at = at; lines = lines; looked = looked-at })
+
+-- none where the last bytes are not enough
+abbrev pub foot_found : List ℕ → Bool → Option Foot
 foot_found tail whole =
-    if foot_enough tail whole then FootFound.At (foot_start tail) (lines_from tail (foot_start tail)) (looked (foot tail whole))
-    else FootFound.MoreBytes
+    if foot_enough tail whole then foot_at (foot_start tail) (lines_from tail (foot_start tail)) (looked (foot tail whole)) else None

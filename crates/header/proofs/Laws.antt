@@ -1,84 +1,34 @@
--- What a scan reads from a place on, and what a line's turn is by the phase. Assumes nothing.
-use Rattle.std.specs.Prelude.{if◌then◌else◌}
-use mathlib.Core.Bool.{Bool, true, false, and_assoc, ◌&&◌}
-use mathlib.Core.List.{List}
-use mathlib.Core.Path.{◌≡◌, refl, sym, ap}
+-- What a scan reads from a place on, and where a name ends. Assumes nothing.
+use Rattle.std.specs.Prelude.{Some, None, cond, if◌then◌else◌}
+use Rattle.std.specs.List.{position, position_or_len}
+use Rattle.std.proofs.lemmas.List.Recursion.{is_position_or_len}
+use mathlib.Core.Bool.{Bool, true, false, not, ◌&&◌, ◌||◌}
+use mathlib.Core.List.{List, [], ◌∷◌}
+use mathlib.Core.Path.{◌≡◌, refl, ◌∙◌}
 use Prim.Native.Nat.{ℕ, suc, ◌+◌, ◌≤◌, ◌<◌}
 use native.Mathlib.Numerals.{add-one}
 use native.Mathlib.Omega.{arith}
-use borrow.Author.Tests.{eq-eqb, ne_eqb}
+use borrow.Author.Tests.{eq-eqb, ne_eqb, ltb-false}
 use lib.Dec.{eqb}
 use lib.ListN.{length, drop, get_or, drop_of_length-le}
 use lib.Seq.{drop-cons}
 use Rattle.rules.specs.Lists.{all, run}
 use Rattle.commit.specs.Grammar.{name_byte, hex_digit}
-use Rattle.commit.specs.Reader.{at_tree, at_parents, at_committer, at_others, on, fault, empty_line, spaced_line, identifier}
-use Rattle.header.specs.Turns.{phase_of, turn_of}
+use Rattle.rules.proofs.Lists.{run_within}
+use Rattle.commit.specs.Reader.{identifier}
+use Rattle.header.specs.Front.{ends_name}
 
 -- ---- runs
-
-pub run_stops : (p : ℕ → Bool) (s : List ℕ) (i : ℕ) → i < length s → p (get_or s i 0) ≡ false → length (run p (drop i s)) ≡ 0
-run_stops p s i h e = rw (drop-cons s i 0, e)
 
 pub run_on : (p : ℕ → Bool) (s : List ℕ) (i : ℕ) → i < length s → p (get_or s i 0) ≡ true → length (run p (drop i s)) ≡ suc (length (run p (drop (i + 1) s)))
 run_on p s i h e = rw (add-one i, drop-cons s i 0, e)
 
-pub run_over : (p : ℕ → Bool) (s : List ℕ) (i : ℕ) → length s ≤ i → length (run p (drop i s)) ≡ 0
-run_over p s i h = rw (drop_of_length-le s h)
-
 -- ---- tests of all bytes
-
-pub all_next : (p : ℕ → Bool) (s : List ℕ) (i : ℕ) (good b : Bool) → i < length s → b ≡ p (get_or s i 0)
-    → good && all p (drop i s) ≡ (good && b) && all p (drop (i + 1) s)
-all_next p s i good b h e = rw (add-one i, drop-cons s i 0, e) (sym (and_assoc good _ _))
 
 pub all_over : (p : ℕ → Bool) (s : List ℕ) (i : ℕ) → length s ≤ i → all p (drop i s) ≡ true
 all_over p s i h = rw (drop_of_length-le s h)
 
--- ---- phases
-
-pub no_empty : (p : ℕ) → (p ≡ 2 → ⊥) → (p ≡ 3 → ⊥) → fault ≡ empty_line (phase_of p)
-no_empty p n m = rw (ne_eqb p 2 n, ne_eqb p 3 m) (go (eqb p 0) (eqb p 1))
-  where
-    go : (a b : Bool) → fault ≡ empty_line (if a then at_tree else if b then at_committer else at_parents p)
-    go true b = refl
-    go false true = refl
-    go false false = refl
-
-pub no_space : (p : ℕ) → (p ≡ 3 → ⊥) → fault ≡ spaced_line (phase_of p)
-no_space p m = rw (ne_eqb p 3 m) (go (eqb p 0) (eqb p 1) (eqb p 2))
-  where
-    go : (a b d : Bool) → fault ≡ spaced_line (if a then at_tree else if b then at_committer else if d then at_others else at_parents p)
-    go true b d = refl
-    go false true d = refl
-    go false false true = refl
-    go false false false = refl
-
-pub parents_phase : (p : ℕ) → 5 < p → phase_of p ≡ at_parents p
-parents_phase p h =
-    rw (
-      ne_eqb p 0 (λ e. absurd (omega arith)),
-      ne_eqb p 1 (λ e. absurd (omega arith)),
-      ne_eqb p 2 (λ e. absurd (omega arith)),
-      ne_eqb p 3 (λ e. absurd (omega arith)),
-    )
-
-pub on_parents : (p : ℕ) → 5 < p → turn_of p ≡ on (at_parents p)
-on_parents p h = rw (ne_eqb p 4 (λ e. absurd (omega arith)), ne_eqb p 5 (λ e. absurd (omega arith))) (ap on (parents_phase p h))
-
 -- ---- bytes and identifiers
-
-pub name_lf : (c : ℕ) → c ≡ 10 → name_byte c ≡ false
-unfolding name_byte
-name_lf c e = rw e
-
-pub name_space : (c : ℕ) → c ≡ 32 → name_byte c ≡ false
-unfolding name_byte
-name_space c e = rw e
-
-pub name_byte_lem : (c : ℕ) → (c ≡ 10 → ⊥) → (c ≡ 32 → ⊥) → name_byte c ≡ true
-unfolding name_byte
-name_byte_lem c n m = rw (ne_eqb c 10 n, ne_eqb c 32 m)
 
 pub id_long : (size : ℕ) (s : List ℕ) → (length s ≡ size → ⊥) → identifier size s ≡ false
 unfolding identifier
@@ -88,19 +38,32 @@ pub id_is : (size : ℕ) (s : List ℕ) (b : Bool) → length s ≡ size → all
 unfolding identifier
 id_is size s b e d = rw (eq-eqb (length s) size e, d)
 
--- ---- a name from a place on
+-- ---- a name at the front
 
-pub name_ends_lf : (s : List ℕ) (i : ℕ) → i < length s → get_or s i 0 ≡ 10 → length (run name_byte (drop i s)) ≡ 0
-name_ends_lf s i h e = run_stops name_byte s i h (name_lf (get_or s i 0) e)
+name_front : (c : ℕ) (xs : List ℕ) → length (run name_byte (c ∷ xs)) ≡ cond (ends_name c) 0 (1 + length (run name_byte xs))
+unfolding name_byte
+name_front c xs = go (eqb c 10) (eqb c 32)
+  where
+    go : (a b : Bool) → length (if not a && not b then c ∷ run name_byte xs else []) ≡ cond (a || b) 0 (1 + length (run name_byte xs))
+    go true b = refl
+    go false true = refl
+    go false false = omega arith
 
-pub name_ends_space : (s : List ℕ) (i : ℕ) → i < length s → get_or s i 0 ≡ 32 → length (run name_byte (drop i s)) ≡ 0
-name_ends_space s i h e = run_stops name_byte s i h (name_space (get_or s i 0) e)
+name_long : (xs : List ℕ) → length (run name_byte xs) ≡ position_or_len ends_name xs
+name_long = is_position_or_len (λ xs. length (run name_byte xs)) ends_name refl name_front
 
-pub name_goes_on : (s : List ℕ) (i : ℕ) → i < length s → (get_or s i 0 ≡ 10 → ⊥) → (get_or s i 0 ≡ 32 → ⊥)
-    → length (run name_byte (drop i s)) ≡ suc (length (run name_byte (drop (i + 1) s)))
-name_goes_on s i h n m = run_on name_byte s i h (name_byte_lem (get_or s i 0) n m)
+name_found : (b : Bool) (k n : ℕ) → cond b (Some k) None ≡ Some n → k ≡ n
+name_found true k n e = cc
+name_found false k n e = cc
 
-pub name_over : (s : List ℕ) (i : ℕ) → length s ≤ i → length (run name_byte (drop i s)) ≡ 0
-name_over s i h = run_over name_byte s i h
+name_lost : (b : Bool) (k : ℕ) → cond b (Some k) None ≡ None → b ≡ false
+name_lost true k e = cc
+name_lost false k e = refl
 
-pub ruleset name_steps = (name_ends_lf, name_ends_space, name_goes_on, name_over)
+pub name_stops : (xs : List ℕ) (n : ℕ) → position ends_name xs ≡ Some n → (n ≤ length xs) × (length (run name_byte xs) ≡ n)
+name_stops xs n e =
+    let f = name_long xs ∙ name_found _ _ n e in
+    (omega (arith, run_within name_byte xs, f), f)
+
+pub name_over : (xs : List ℕ) → position ends_name xs ≡ None → length (run name_byte xs) ≡ length xs
+name_over xs e = omega (arith, name_long xs, run_within name_byte xs, ltb-false (position_or_len ends_name xs) (length xs) (name_lost _ _ e))

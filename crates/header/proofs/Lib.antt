@@ -1,2 +1,2 @@
--- Laws of bytes and phases, for those who call this crate.
+-- Laws of bytes and names, for those who call this crate.
 pub mod Laws

@@ -1,2 +1,2 @@
 -- The words that the contracts of this crate add to those of commit.
-pub mod Turns
+pub mod Front

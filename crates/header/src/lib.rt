@@ -1,28 +1,16 @@
-// What a line does in a commit object's header: its name, its identifier, and what may come behind it.
+// What a line does in a commit object's header: its name, its identifier, and what may come after it.
 #![tactic(auto)]
 
-ghost use Rattle.std.specs.Prelude.{◌&&◌, ◌≡◌, ◌+◌, ◌<◌, ◌≤◌, ltb, length, drop};
+ghost use Rattle.std.specs.Prelude.{◌≡◌, ◌+◌, ◌≤◌, length, drop};
+ghost use Rattle.std.specs.List.{position};
 ghost use Rattle.rules.specs.Lists.{run};
 ghost use Rattle.commit.specs.Grammar.{name_byte, four, hex_digit};
-ghost use Rattle.commit.specs.Reader.{at_tree, at_parents, at_committer, at_others, empty_line, spaced_line, named_line, identifier};
-ghost use Rattle.header.specs.Turns.{phase_of, turn_of, id_front, parent_front};
+ghost use Rattle.commit.specs.Reader.{empty_line, spaced_line, named_line, identifier};
+ghost use Rattle.commit.specs.declared.Phase.{Phase};
+ghost use Rattle.header.specs.Front.{ends_name, id_front, parent_comes};
 
+use commit::{Phase, Turn};
 use text::fixed::{equals, starts_with};
-
-// What may come next in a header: the tree, the committer, another line or the empty one, or also a line that continues the one
-// above. Where a parent or the author may come, it is the length of the identifiers.
-pub const TREE: usize = 0;
-
-const COMMITTER: usize = 1;
-
-const OTHERS: usize = 2;
-
-const UNDER: usize = 3;
-
-// What a line does: it leads to one of these, or it ends the header, or no good header is possible after it.
-pub const END: usize = 4;
-
-pub const FAULT: usize = 5;
 
 // ---- names and identifiers
 
@@ -41,39 +29,28 @@ fn is_identifier(content: &[u8], size: usize) -> bool
         return false;
     }
     let mut good = true;
-    let mut i = 0;
-    while i < content.len() {
-        good = good & is_hex_digit(content[i]);
-        i += 1;
+    for byte in content {
+        good &= is_hex_digit(*byte);
     }
     good
 }
 
-// Whether an identifier of a size stands at the front, and an LF behind it.
+// Whether an identifier of a size stands at the front, and an LF after it.
 fn is_id_front(input: &[u8], size: usize) -> bool
     ensures { result ≡ id_front size input.now }
 {
-    if input.len() <= size {
-        return false;
-    }
-    if input[size] != b'\n' {
-        return false;
-    }
-    is_identifier(&input[0..size], size)
+    input.len() > size && input[size] == b'\n' && is_identifier(&input[..size], size)
 }
 
-// Whether a parent's line stands at the front, where identifiers of this size may come: the size says where its LF is, so that no
-// search is needed.
-pub fn is_parent_front(input: &[u8], phase: usize) -> bool
-    ensures { result ≡ (ltb 5 phase && parent_front phase input.now) }
+// Whether a parent's line stands at the front, where one may come: the size of the identifiers says where its LF is, so that no search is
+// needed.
+pub fn is_parent_front(input: &[u8], phase: Phase) -> bool
+    ensures { result ≡ parent_comes phase input.now }
 {
-    if phase <= FAULT {
-        return false;
+    match phase {
+        Phase::Parents(size) => starts_with(input, b"parent ") && is_id_front(&input[7..], size),
+        _ => false,
     }
-    if !starts_with(input, b"parent ") {
-        return false;
-    }
-    is_id_front(&input[7..], phase)
 }
 
 // Whether a name is one of the four that have their own places. None of them is shorter than four bytes.
@@ -89,110 +66,78 @@ fn is_one_of_four(name: &[u8]) -> bool
         | equals(name, b"committer")
 }
 
+// The place of the first byte that ends a name: a space or an LF.
+fn name_stop(line: &[u8]) -> Option<usize>
+    ensures { result ≡ position ends_name line.now }
+{
+    line.iter().position(|byte| *byte == b'\n' || *byte == b' ')
+}
+
 // Where the name that starts at `at` ends: at the first space or LF, or at the end.
-#[tactic(auto, using(crate::proofs::Laws::name_steps))]
 pub fn name_end(content: &[u8], at: usize) -> usize
     requires { at ≤ length content.now }
     ensures { (result ≤ length content.now) × (result ≡ at + length (run name_byte (drop at content.now))) }
 {
-    let mut i = at;
-    while i < content.len() {
-        if content[i] == b'\n' {
-            return i;
-        }
-        if content[i] == b' ' {
-            return i;
-        }
-        i += 1;
+    match name_stop(&content[at..]) {
+        Some(length) => at + length,
+        None => content.len(),
     }
-    i
 }
 
 // ---- what a line does, by what may come: the empty line, a line that starts with a space, a line with a name
 
-pub fn empty_turn(phase: usize) -> usize
-    ensures { turn_of result ≡ empty_line (phase_of phase) }
+// The empty line ends a header that has its committer.
+pub fn empty_turn(phase: Phase) -> Option<Turn>
+    ensures { result ≡ empty_line phase }
 {
-    if phase == OTHERS {
-        return END;
+    match phase {
+        Phase::Others | Phase::Under => Some(Turn::End),
+        _ => None,
     }
-    if phase == UNDER {
-        return END;
-    }
-    FAULT
 }
 
-pub fn spaced_turn(phase: usize) -> usize
-    ensures { turn_of result ≡ spaced_line (phase_of phase) }
+// A line that starts with a space continues another line, and none of the four.
+pub fn spaced_turn(phase: Phase) -> Option<Turn>
+    ensures { result ≡ spaced_line phase }
 {
-    if phase != UNDER {
-        return FAULT;
+    match phase {
+        Phase::Under => Some(Turn::To(Phase::Under)),
+        _ => None,
     }
-    UNDER
 }
 
-fn tree_turn(name: &[u8], content: &[u8]) -> usize
-    ensures { turn_of result ≡ named_line at_tree name.now content.now }
+fn tree_turn(name: &[u8], content: &[u8]) -> Option<Turn>
+    ensures { result ≡ named_line Phase.Tree name.now content.now }
 {
     if !equals(name, b"tree") {
-        return FAULT;
+        return None;
     }
     if is_identifier(content, 40) {
-        return 40;
+        return Some(Turn::To(Phase::Parents(40)));
     }
     if is_identifier(content, 64) {
-        return 64;
+        return Some(Turn::To(Phase::Parents(64)));
     }
-    FAULT
+    None
 }
 
-fn parent_turn(size: usize, name: &[u8], content: &[u8]) -> usize
-    requires { 5 < size }
-    ensures { turn_of result ≡ named_line (at_parents size) name.now content.now }
+fn parent_turn(size: usize, name: &[u8], content: &[u8]) -> Option<Turn>
+    ensures { result ≡ named_line (Phase.Parents size) name.now content.now }
 {
     if equals(name, b"parent") {
-        if is_identifier(content, size) {
-            return size;
-        }
-        return FAULT;
+        return is_identifier(content, size).then_some(Turn::To(Phase::Parents(size)));
     }
-    if equals(name, b"author") {
-        return COMMITTER;
-    }
-    FAULT
+    equals(name, b"author").then_some(Turn::To(Phase::Committer))
 }
 
-fn committer_turn(name: &[u8], content: &[u8]) -> usize
-    ensures { turn_of result ≡ named_line at_committer name.now content.now }
+// None where no good header goes on after the line.
+pub fn named_turn(phase: Phase, name: &[u8], content: &[u8]) -> Option<Turn>
+    ensures { result ≡ named_line phase name.now content.now }
 {
-    if equals(name, b"committer") {
-        return OTHERS;
+    match phase {
+        Phase::Tree => tree_turn(name, content),
+        Phase::Parents(size) => parent_turn(size, name, content),
+        Phase::Committer => equals(name, b"committer").then_some(Turn::To(Phase::Others)),
+        Phase::Others | Phase::Under => (!is_one_of_four(name)).then_some(Turn::To(Phase::Under)),
     }
-    FAULT
-}
-
-fn other_turn(name: &[u8], content: &[u8]) -> usize
-    ensures { turn_of result ≡ named_line at_others name.now content.now }
-{
-    if is_one_of_four(name) {
-        return FAULT;
-    }
-    UNDER
-}
-
-// Above `UNDER` a phase is the length of the identifiers.
-pub fn named_turn(phase: usize, name: &[u8], content: &[u8]) -> usize
-    requires { (phase ≡ 4 → ⊥) × (phase ≡ 5 → ⊥) }
-    ensures { turn_of result ≡ named_line (phase_of phase) name.now content.now }
-{
-    if phase == TREE {
-        return tree_turn(name, content);
-    }
-    if phase == COMMITTER {
-        return committer_turn(name, content);
-    }
-    if phase > UNDER {
-        return parent_turn(phase, name, content);
-    }
-    other_turn(name, content)
 }

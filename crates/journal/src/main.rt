@@ -11,32 +11,31 @@ use std::io::Write;
 use std::rt::{Env, Files};
 
 fn main(rt: HostRuntime) {
-    let count = arg_count(&rt);
-    for i in 1..count {
+    for i in 1..arg_count(&rt) {
         list_entry(&rt, &mut rt.stdout(), &mut rt.stderr(), i);
     }
 }
 
 // Lists and explains the entry in the file that argument `i` names, or says why it cannot be opened.
 fn list_entry<R: Env + Files, W: Write, E: Write>(rt: &R, out: &mut W, errors: &mut E, i: usize) {
-    let mut name = buffer();
-    let len = arg(rt, i, &mut name);
-    match open_read(rt, &name[..len]) {
+    let mut space = buffer();
+    let name = arg(rt, i, &mut space);
+    match open_read(rt, name) {
         Ok(mut file) => {
             write_all(out, b"== ");
-            write_all(out, &name[..len]);
+            write_all(out, name);
             write_all(out, b"\n");
             printing::list(&mut file, out);
         }
         Err(error) => {
-            fail(errors, &name[..len], error);
+            fail(errors, name, error);
             return;
         }
     }
     write_all(out, b"= reading\n");
-    explain_entry(rt, out, &name[..len]);
+    explain_entry(rt, out, name);
     write_all(out, b"= calls\n");
-    ask_entry(rt, out, &name[..len]);
+    ask_entry(rt, out, name);
 }
 
 // Explains the entry in a file; one that can no longer be opened reads as an empty one.
@@ -54,8 +53,8 @@ fn ask_entry<R: Files, W: Write>(rt: &R, out: &mut W, name: &[u8]) {
         Ok(mut file) => read_full(&mut file, &mut space),
         Err(_) => 0,
     };
-    let mut buffer = large_buffer();
-    print_calls(out, &space[..len], &mut buffer);
+    let message = &space[..len];
+    print_calls(out, message, &mut large_buffer());
     write_all(out, b"= closing\n");
-    noting::print_closing(out, &space[..len], 207);
+    noting::print_closing(out, message, 207);
 }

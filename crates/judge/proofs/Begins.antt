@@ -12,11 +12,11 @@ use lib.ListN.{length, take, length-append}
 use Rattle.rules.specs.Bytes.{LF, space}
 use Rattle.rules.specs.Lines.{Line, inner, lines, before}
 use Rattle.rules.specs.Lists.{All, filled}
-use Rattle.rules.specs.declared.Part.{Part}
 use Rattle.rules.proofs.Lists.{all_of, all_append}
 use Rattle.commit.specs.Grammar.{name_byte, HeaderLine, named, written, written_all, Continued, Good, counted}
 use Rattle.commit.specs.Place.{Says, Answer, refused}
-use Rattle.commit.specs.Reader.{at_tree, good, bad, judge, commit}
+use Rattle.commit.specs.Reader.{good, bad, judge, commit}
+use Rattle.commit.specs.declared.Phase.{Phase}
 use Rattle.commit.proofs.Shapes.{name_inner, not_space}
 use Rattle.commit.proofs.Completing.{good_completing, all_written, Lines, none, more, completing_lines}
 use Rattle.commit.proofs.Accepts.{whole_line}
@@ -24,6 +24,7 @@ use Rattle.commit.proofs.Numbers.{counted_name}
 use Rattle.commit.proofs.Refusals.{answer_says}
 use Rattle.commit.proofs.Judged.{judged_by, judge-commit}
 use Rattle.judge.specs.Scan.{begun, begins, start_of, GoodHeader}
+use Rattle.judge.specs.declared.Header.{Header}
 
 -- ---- what is seen
 
@@ -127,27 +128,27 @@ begins_is content header message k g h =
 same_numbers : (a b c d : ℕ) → good a b ≡ good c d → (a ≡ c) × (b ≡ d)
 same_numbers a b c d e = (cc, cc)
 
-pub good_header : (content : List ℕ) (k n start : ℕ) (line : Part) → judge at_tree 0 0 (lines content) ≡ good n start
-    → (k < n → line.start ≡ begins k 0 0 0 (lines content)) → (k < n → line.end ≡ begins (suc k) 0 0 0 (lines content)) → GoodHeader content k n line start
-good_header content k n start line e f t = said (commit content) (answer_says content) (sym e ∙ judge-commit content)
+pub good_header : (content : List ℕ) (k : ℕ) (h : Header) → judge Phase.Tree 0 0 (lines content) ≡ good h.lines h.message
+    → (k < h.lines → h.line.start ≡ begins k 0 0 0 (lines content)) → (k < h.lines → h.line.end ≡ begins (suc k) 0 0 0 (lines content)) → GoodHeader content k h
+good_header content k h e f t = said (commit content) (answer_says content) (sym e ∙ judge-commit content)
   where
-    said : (a : Answer) → Says content a → good n start ≡ judged_by a → GoodHeader content k n line start
-    said a (Says.good {header = h} {message = m} g) d =
-        let i = same_numbers n start (length h) _ d in
+    said : (a : Answer) → Says content a → good h.lines h.message ≡ judged_by a → GoodHeader content k h
+    said a (Says.good {header = hs} {message = m} g) d =
+        let i = same_numbers h.lines h.message (length hs) _ d in
         record {
-          header = h;
+          header = hs;
           message = m;
           good = g;
           count = i.0;
-          line_start = λ b. f b ∙ begins_is content h m k g (omega (arith, i.0));
-          line_end = λ b. t b ∙ begins_is content h m (suc k) g (omega (arith, i.0));
+          line_start = λ b. f b ∙ begins_is content hs m k g (omega (arith, i.0));
+          line_end = λ b. t b ∙ begins_is content hs m (suc k) g (omega (arith, i.0));
           behind = i.1;
         }
-    said a (Says.none {number = j} x) d = let z : ◌≡◌ {A = ℕ} 0 1 = cc in absurd (omega arith)
+    said a (Says.none {number = j} x) d = absurd cc
 
-pub bad_header : (content : List ℕ) (n : ℕ) → judge at_tree 0 0 (lines content) ≡ bad n → commit content ≡ refused n
+pub bad_header : (content : List ℕ) (n : ℕ) → judge Phase.Tree 0 0 (lines content) ≡ bad n → commit content ≡ refused n
 bad_header content n e = said (commit content) (sym e ∙ judge-commit content)
   where
     said : (a : Answer) → bad n ≡ judged_by a → a ≡ refused n
-    said (Answer.accepted h m) d = let z : ◌≡◌ {A = ℕ} 0 1 = cc in absurd (omega arith)
+    said (Answer.accepted h m) d = absurd cc
     said (refused j) d = let i : n ≡ j = cc in ap refused (sym i)

@@ -1,4 +1,5 @@
 -- The line at a place, by the places where its name and its text end. Assumes nothing.
+use Rattle.std.specs.Prelude.{Option, None, if◌then◌else◌}
 use mathlib.Core.Bool.{Bool, true, false, not}
 use mathlib.Core.List.{List, [], ◌∷◌, ◌++◌, append_assoc, append-nil}
 use mathlib.Core.Path.{◌≡◌, refl, sym, ap, subst, ◌∙◌}
@@ -15,12 +16,13 @@ use Rattle.rules.specs.Lists.{All, Stops, filled, run, past}
 use Rattle.rules.proofs.Lists.{run_past, run_all, past_stops, all_append, all_of, is_true, is_false}
 use Rattle.rules.proofs.Lines.{lines_only}
 use Rattle.commit.specs.Grammar.{name_byte}
-use Rattle.commit.specs.Reader.{Shape, empty, continues, names, wrong, shape, unended, text_of, on_name, on_space, step, empty_line, spaced_line, named_line}
+use Rattle.commit.specs.Reader.{Shape, empty, wrong, shape, unended, text_of, on_name, on_space, step, empty_line, spaced_line, named_line}
 use Rattle.commit.proofs.Shapes.{continues_of, names_of, name_inner, not_lf, not_space}
 use Rattle.commit.proofs.Accepts.{whole_line}
-use Rattle.header.specs.Turns.{phase_of, turn_of}
+use Rattle.commit.specs.declared.Phase.{Phase}
+use Rattle.commit.specs.declared.Turn.{Turn}
 use Rattle.header.proofs.Laws.{run_on}
-use Rattle.judge.specs.Scan.{LineTurn}
+use Rattle.judge.specs.Scan.{LineTurn, turned}
 use Rattle.judge.specs.declared.Turned.{Turned}
 
 -- ---- shapes of lines that are not of the header's form
@@ -115,22 +117,20 @@ behind_name s at q e k h n d =
 
 -- ---- the six ends of a line
 
-abbrev pub made : ℕ → ℕ → Turned
-made t e = record { turn = t; end = e }
-
-pub built : (s : List ℕ) (at phase : ℕ) (l : Line) (ls : List Line) (x : Shape) (t e : ℕ) → lines (drop at s) ≡ l ∷ ls → shape l ≡ x → turn_of t ≡ step (phase_of phase) x
-    → e ≡ at + length l → LineTurn s at phase (made t e)
-built s at phase l ls x t e p q r d = record { line = l; rest = ls; splits = p; turns = r ∙ ap (step (phase_of phase)) (sym q); ends = d }
+pub built : (s : List ℕ) (at : ℕ) (phase : Phase) (l : Line) (ls : List Line) (x : Shape) (e : ℕ) (r : Option Turned) → lines (drop at s) ≡ l ∷ ls → shape l ≡ x
+    → e ≡ at + length l → r ≡ turned e (step phase x) → LineTurn s at phase r
+built s at phase l ls x e r p q d t =
+    record { line = l; rest = ls; splits = p; turns = t ∙ ap (λ (z : ℕ). turned z (step phase x)) d ∙ ap (λ (z : Shape). turned (at + length l) (step phase z)) (sym q) }
 
 nothing : (s : List ℕ) (q : ℕ) → q ≡ length s → drop q s ≡ []
 nothing s q e = let h : length s ≤ q = omega arith in drop_of_length-le s h
 
-pub name_unended : (s : List ℕ) (at phase q : ℕ) → at < length s → Cut name_byte s at q → q ≡ length s → LineTurn s at phase (made 5 q)
+pub name_unended : (s : List ℕ) (at : ℕ) (phase : Phase) (q : ℕ) → at < length s → Cut name_byte s at q → q ≡ length s → LineTurn s at phase None
 name_unended s at phase q h k e =
     let w : drop at s ≡ k.piece = k.splits ∙ ap (λ (z : List ℕ). k.piece ++ z) (nothing s q e) ∙ append-nil k.piece in
-    built s at phase k.piece [] wrong 5 q
+    built s at phase k.piece [] wrong q None
     (ap lines w ∙ one_line k.piece (omega (arith, k.long)) (all_of name_byte inner name_inner k.piece k.passes))
-    (name_wrong k.piece k.passes) refl k.long
+    (name_wrong k.piece k.passes) k.long refl
 
 behind_lf : (s : List ℕ) (q : ℕ) → q < length s → get_or s q 0 ≡ LF → drop q s ≡ LF ∷ drop (q + 1) s
 behind_lf s q h e = at_place s q h ∙ ap (λ (z : ℕ). z ∷ drop (q + 1) s) e
@@ -143,10 +143,11 @@ lf_lines s at q k h e =
 lf_long : (s : List ℕ) (at q : ℕ) (k : Cut name_byte s at q) → q + 1 ≡ at + length (k.piece ++ LF ∷ [])
 lf_long s at q k = omega (arith, k.long, length-append k.piece (LF ∷ []))
 
-pub empty_line_lem : (s : List ℕ) (at phase q t : ℕ) → Cut name_byte s at q → q < length s → get_or s q 0 ≡ LF → q ≡ at → turn_of t ≡ empty_line (phase_of phase)
-    → LineTurn s at phase (made t (q + 1))
-empty_line_lem s at phase q t k h e d r =
-    built s at phase (k.piece ++ LF ∷ []) (lines (drop (q + 1) s)) empty t (q + 1) (lf_lines s at q k h e) (none k.piece (omega (arith, k.long))) r (lf_long s at q k)
+pub empty_line_lem : (s : List ℕ) (at : ℕ) (phase : Phase) (q : ℕ) (t : Option Turn) (r : Option Turned) → Cut name_byte s at q → q < length s → get_or s q 0 ≡ LF → q ≤ at
+    → t ≡ empty_line phase → r ≡ turned (q + 1) t → LineTurn s at phase r
+empty_line_lem s at phase q t r k h e d i j =
+    built s at phase (k.piece ++ LF ∷ []) (lines (drop (q + 1) s)) empty (q + 1) r (lf_lines s at q k h e) (none k.piece (omega (arith, k.long))) (lf_long s at q k)
+    (j ∙ ap (turned (q + 1)) i)
   where
     none : (n : List ℕ) → length n ≡ 0 → shape (n ++ LF ∷ []) ≡ empty
     none [] z = refl
@@ -156,10 +157,10 @@ some : (n : List ℕ) → 0 < length n → T (filled n)
 some [] h = absurd (omega arith)
 some (c ∷ n) h = tt
 
-pub name_alone : (s : List ℕ) (at phase q : ℕ) → Cut name_byte s at q → q < length s → get_or s q 0 ≡ LF → (q ≡ at → ⊥) → LineTurn s at phase (made 5 (q + 1))
+pub name_alone : (s : List ℕ) (at : ℕ) (phase : Phase) (q : ℕ) → Cut name_byte s at q → q < length s → get_or s q 0 ≡ LF → at < q → LineTurn s at phase None
 name_alone s at phase q k h e n =
-    built s at phase (k.piece ++ LF ∷ []) (lines (drop (q + 1) s)) wrong 5 (q + 1) (lf_lines s at q k h e)
-    (lf_wrong k.piece (some k.piece (omega (arith, k.long, n))) k.passes) refl (lf_long s at q k)
+    built s at phase (k.piece ++ LF ∷ []) (lines (drop (q + 1) s)) wrong (q + 1) None (lf_lines s at q k h e)
+    (lf_wrong k.piece (some k.piece (omega (arith, k.long, n))) k.passes) (lf_long s at q k) refl
 
 -- a space ends the name
 spaced_splits : (s : List ℕ) (at q e : ℕ) (k : Cut name_byte s at q) (j : Cut inner s (q + 1) e) → q < length s → (get_or s q 0 ≡ LF → ⊥)
@@ -171,14 +172,14 @@ spaced_splits s at q e k j h n =
 names_inner : (s : List ℕ) (at q e : ℕ) (k : Cut name_byte s at q) (j : Cut inner s (q + 1) e) → All inner (k.piece ++ space ∷ j.piece)
 names_inner s at q e k j = all_append inner k.piece (space ∷ j.piece) (all_of name_byte inner name_inner k.piece k.passes) (tt, j.passes)
 
-pub text_unended : (s : List ℕ) (at phase q e : ℕ) → Cut name_byte s at q → Cut inner s (q + 1) e → q < length s → (get_or s q 0 ≡ LF → ⊥) → e ≡ length s
-    → LineTurn s at phase (made 5 e)
+pub text_unended : (s : List ℕ) (at : ℕ) (phase : Phase) (q e : ℕ) → Cut name_byte s at q → Cut inner s (q + 1) e → q < length s → (get_or s q 0 ≡ LF → ⊥) → e ≡ length s
+    → LineTurn s at phase None
 text_unended s at phase q e k j h n d =
     let w : drop at s ≡ k.piece ++ space ∷ j.piece =
     spaced_splits s at q e k j h n ∙ ap (λ (z : List ℕ). k.piece ++ space ∷ z) (ap (λ (z : List ℕ). j.piece ++ z) (nothing s e d) ∙ append-nil j.piece) in
     let l : length (k.piece ++ space ∷ j.piece) ≡ length k.piece + suc (length j.piece) = length-append k.piece (space ∷ j.piece) in
-    built s at phase (k.piece ++ space ∷ j.piece) [] wrong 5 e (ap lines w ∙ one_line (k.piece ++ space ∷ j.piece) (omega (arith, l)) (names_inner s at q e k j))
-    (text_wrong k.piece j.piece k.passes j.passes) refl (omega (arith, k.long, j.long, l))
+    built s at phase (k.piece ++ space ∷ j.piece) [] wrong e None (ap lines w ∙ one_line (k.piece ++ space ∷ j.piece) (omega (arith, l)) (names_inner s at q e k j))
+    (text_wrong k.piece j.piece k.passes j.passes) (omega (arith, k.long, j.long, l)) refl
 
 text_lines : (s : List ℕ) (at q e : ℕ) (k : Cut name_byte s at q) (j : Cut inner s (q + 1) e) → q < length s → (get_or s q 0 ≡ LF → ⊥) → e < length s
     → lines (drop at s) ≡ (k.piece ++ space ∷ (j.piece ++ LF ∷ [])) ∷ lines (drop (e + 1) s)
@@ -192,21 +193,16 @@ text_lines s at q e k j h n d =
 text_long : (s : List ℕ) (at q e : ℕ) (k : Cut name_byte s at q) (j : Cut inner s (q + 1) e) → e + 1 ≡ at + length (k.piece ++ space ∷ (j.piece ++ LF ∷ []))
 text_long s at q e k j = omega (arith, k.long, j.long, length-append k.piece (space ∷ (j.piece ++ LF ∷ [])), length-append j.piece (LF ∷ []))
 
-pub spaced_line_lem : (s : List ℕ) (at phase q e t : ℕ) → Cut name_byte s at q → Cut inner s (q + 1) e → q < length s → (get_or s q 0 ≡ LF → ⊥) → e < length s → q ≡ at
-    → turn_of t ≡ spaced_line (phase_of phase) → LineTurn s at phase (made t (e + 1))
-spaced_line_lem s at phase q e t k j h n d i r =
-    built s at phase (k.piece ++ space ∷ (j.piece ++ LF ∷ [])) (lines (drop (e + 1) s)) (continues j.piece) t (e + 1) (text_lines s at q e k j h n d)
-    (none k.piece (omega (arith, k.long))) r (text_long s at q e k j)
-  where
-    none : (m : List ℕ) → length m ≡ 0 → shape (m ++ space ∷ (j.piece ++ LF ∷ [])) ≡ continues j.piece
-    none [] z = continues_of j.piece j.passes
-    none (c ∷ m) z = absurd (omega arith)
+content_step : (phase : Phase) (n t : List ℕ) → All name_byte n → All inner t
+    → step phase (shape (n ++ space ∷ (t ++ LF ∷ []))) ≡ (if filled n then named_line phase n t else spaced_line phase)
+content_step phase [] t b a = ap (step phase) (continues_of t a)
+content_step phase (c ∷ n) t b a = ap (step phase) (names_of (c ∷ n) t tt b a)
 
-pub named_line_lem : (s : List ℕ) (at phase q e t : ℕ) → Cut name_byte s at q → Cut inner s (q + 1) e → q < length s → (get_or s q 0 ≡ LF → ⊥) → e < length s → (q ≡ at → ⊥)
-    → turn_of t ≡ named_line (phase_of phase) (take (q - at) (drop at s)) (take (e - (q + 1)) (drop (q + 1) s)) → LineTurn s at phase (made t (e + 1))
-named_line_lem s at phase q e t k j h n d i r =
-    built s at phase (k.piece ++ space ∷ (j.piece ++ LF ∷ [])) (lines (drop (e + 1) s)) (names k.piece j.piece) t (e + 1) (text_lines s at q e k j h n d)
-    (names_of k.piece j.piece (some k.piece (omega (arith, k.long, i))) k.passes j.passes)
-    (r ∙ ap (λ (z : List ℕ). named_line (phase_of phase) z (take (e - (q + 1)) (drop (q + 1) s))) (taken name_byte s at q k)
-    ∙ ap (named_line (phase_of phase) k.piece) (taken inner s (q + 1) e j))
-    (text_long s at q e k j)
+pub content_line : (s : List ℕ) (at : ℕ) (phase : Phase) (q e : ℕ) (t : Option Turn) (r : Option Turned) → Cut name_byte s at q → Cut inner s (q + 1) e → q < length s
+    → (get_or s q 0 ≡ LF → ⊥) → e < length s
+    → t ≡ (let n = take (q - at) (drop at s) in if filled n then named_line phase n (take (e - (q + 1)) (drop (q + 1) s)) else spaced_line phase)
+    → r ≡ turned (e + 1) t → LineTurn s at phase r
+content_line s at phase q e t r k j h n d u v =
+    let l : Line = k.piece ++ space ∷ (j.piece ++ LF ∷ []) in
+    built s at phase l (lines (drop (e + 1) s)) (shape l) (e + 1) r (text_lines s at q e k j h n d) refl (text_long s at q e k j)
+    (v ∙ ap (turned (e + 1)) (rw (taken name_byte s at q k, taken inner s (q + 1) e j) at u ∙ sym (content_step phase k.piece j.piece k.passes j.passes)))

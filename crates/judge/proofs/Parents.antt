@@ -1,25 +1,26 @@
 -- A parent's line at a place, by what stands at the front there. Assumes nothing.
+use Rattle.std.specs.Prelude.{Some}
 use mathlib.Core.Bool.{true, ◌&&◌}
 use mathlib.Core.List.{List, [], ◌∷◌, ◌++◌}
-use mathlib.Core.Path.{◌≡◌, refl, sym, ap, ◌∙◌}
-use Prim.Native.Nat.{ℕ, ◌+◌, ◌≤◌, ◌<◌}
+use mathlib.Core.Path.{◌≡◌, sym, ap, ◌∙◌}
+use Prim.Native.Nat.{ℕ, ◌+◌}
 use native.Mathlib.Omega.{arith}
-use borrow.Author.Tests.{ltb-true}
-use lib.Dec.{T, eqb, ltb, eqb→eq}
-use lib.ListN.{length, take, drop, take-append-drop, length-append, length-drop}
+use lib.Dec.{T, eqb, eqb→eq}
+use lib.ListN.{length, take, drop, take-append-drop, length-append}
 use Rattle.rules.specs.Bytes.{bytes, LF, space}
 use Rattle.rules.specs.Lines.{inner, lines}
 use Rattle.rules.specs.Lists.{All, all, first, starts}
 use Rattle.rules.proofs.Lists.{and_left, and_right, all_append, all_of, is_true}
 use Rattle.rules.proofs.White.{starts_is}
 use Rattle.commit.specs.Grammar.{name_byte, hex_digit}
-use Rattle.commit.specs.Reader.{Phase, names, named_line, identifier}
+use Rattle.commit.specs.Reader.{names, identifier}
+use Rattle.commit.specs.declared.Phase.{Phase}
+use Rattle.commit.specs.declared.Turn.{Turn}
 use Rattle.commit.proofs.Shapes.{names_of, hex_inner, T_all}
 use Rattle.commit.proofs.Accepts.{whole_line}
-use Rattle.header.specs.Turns.{phase_of, turn_of, id_front, parent_front}
-use Rattle.header.proofs.Laws.{parents_phase, on_parents}
-use Rattle.judge.specs.Scan.{LineTurn}
-use Rattle.judge.proofs.Cuts.{made, built}
+use Rattle.header.specs.Front.{id_front, parent_front}
+use Rattle.judge.specs.Scan.{LineTurn, turned}
+use Rattle.judge.proofs.Cuts.{built}
 
 lf_first : (s : List ℕ) → T (first (λ (c : ℕ). eqb c LF) s) → s ≡ LF ∷ drop 1 s
 lf_first [] t = absurd t
@@ -27,22 +28,19 @@ lf_first (c ∷ s) t = ap (λ (z : ℕ). z ∷ s) (eqb→eq c LF t)
 
 -- its digits, and what is behind its LF
 record ParentLine (size : ℕ) (s : List ℕ) : Type 0 where
-  over : 5 < size
   digits : List ℕ
   behind : List ℕ
   is : s ≡ bytes "parent " ++ (digits ++ LF ∷ behind)
   good : identifier size digits ≡ true
 
-parent : (size : ℕ) (s : List ℕ) → (ltb 5 size && parent_front size s) ≡ true → ParentLine size s
+parent : (size : ℕ) (s : List ℕ) → parent_front size s ≡ true → ParentLine size s
 parent size s e =
     let w : List ℕ = drop 7 s in
-    let both : T (ltb 5 size && parent_front size s) = rw e tt in
-    let t : T (parent_front size s) = and_right (ltb 5 size) (parent_front size s) both in
+    let t : T (parent_front size s) = rw e tt in
     let i : T (id_front size w) = and_right (starts (bytes "parent ") s) (id_front size w) t in
     let d : T (identifier size (take size w)) = and_left (identifier size (take size w)) (first (λ (c : ℕ). eqb c LF) (drop size w)) i in
     let l : drop size w ≡ LF ∷ drop 1 (drop size w) = lf_first (drop size w) (and_right (identifier size (take size w)) (first (λ (c : ℕ). eqb c LF) (drop size w)) i) in
     record {
-      over = ltb-true 5 size (is_true (ltb 5 size) (and_left (ltb 5 size) (parent_front size s) both));
       digits = take size w;
       behind = drop 1 (drop size w);
       is = starts_is (bytes "parent ") s (and_left (starts (bytes "parent ") s) (id_front size w) t)
@@ -60,23 +58,16 @@ name_bytes : All name_byte (bytes "parent")
 unfolding name_byte
 name_bytes = T_all name_byte (bytes "parent") tt
 
-turns : (size : ℕ) (d : List ℕ) → 5 < size → identifier size d ≡ true → turn_of size ≡ named_line (phase_of size) (bytes "parent") d
-turns size d h e = on_parents size h ∙ sym (ap (λ (ph : Phase). named_line ph (bytes "parent") d) (parents_phase size h) ∙ rw e refl)
-
-pub parent_line : (s : List ℕ) (at size : ℕ) → (ltb 5 size && parent_front size (drop at s)) ≡ true → LineTurn s at size (made size (at + size + 8))
+pub parent_line : (s : List ℕ) (at size : ℕ) → parent_front size (drop at s) ≡ true
+    → LineTurn s at (Phase.Parents size) (turned (at + size + 8) (Some (Turn.To (Phase.Parents size))))
 parent_line s at size e =
     let p = parent size (drop at s) e in
     let d = p.digits in
     let i = sized size d p.good in
     let a : All inner d = all_of hex_digit inner hex_inner d i.1 in
-    built s at size (bytes "parent" ++ space ∷ (d ++ LF ∷ [])) (lines p.behind) (names (bytes "parent") d) size (at + size + 8)
+    built s at (Phase.Parents size) (bytes "parent" ++ space ∷ (d ++ LF ∷ [])) (lines p.behind) (names (bytes "parent") d) (at + size + 8)
+    (turned (at + size + 8) (Some (Turn.To (Phase.Parents size))))
     (ap lines p.is ∙ whole_line (bytes "parent " ++ d) p.behind (all_append inner (bytes "parent ") d (T_all inner (bytes "parent ") tt) a))
     (names_of (bytes "parent") d tt name_bytes a)
-    (turns size d p.over p.good)
     (omega (arith, i.0, length-append d (LF ∷ [])))
-
-pub parent_fits : (s : List ℕ) (at size : ℕ) → at ≤ length s → (ltb 5 size && parent_front size (drop at s)) ≡ true → at + size + 8 ≤ length s
-parent_fits s at size h e =
-    let p = parent size (drop at s) e in
-    let i = sized size p.digits p.good in
-    omega (arith, i.0, ap length p.is, length-append p.digits (LF ∷ p.behind), length-drop at s)
+    (rw p.good)

@@ -1,7 +1,7 @@
 -- The single steps, called until the end, give the records and the values of the walk (given_by_steps), and nothing else (steps_give): so
 -- there are as many records as trailers in the walk, and as many bytes as its written values have (records_count, bytes_count).
 -- Assumes nothing.
-use Rattle.std.specs.Prelude.{if◌then◌else◌}
+use Rattle.std.specs.Prelude.{None, Some, Ok, if◌then◌else◌}
 use mathlib.Core.Bool.{Bool, true, false, not, ◌||◌}
 use mathlib.Core.List.{List, [], ◌∷◌, ◌++◌, map}
 use mathlib.Core.Path.{◌≡◌, refl, sym, ap, ◌∙◌}
@@ -14,7 +14,7 @@ use Rattle.rules.proofs.Number.{moved_fits}
 use Rattle.rules.proofs.Walk.{walk_moves, walk_step, walk_within}
 use Rattle.rules.specs.Answers.{Said, says, afterwards, limit, number, over_limit, trailer_step_says}
 use Rattle.rules.specs.Number.{cursor_fits, moved_on}
-use Rattle.rules.specs.Record.{record_of, written_of}
+use Rattle.rules.specs.Record.{record_of, step_with, written_of}
 use Rattle.rules.specs.Trailer.{Trailer, end_of, only, place_of, raw_value, raw_value_at, walk_from}
 use Rattle.rules.specs.declared.Cursor.{Cursor}
 use Rattle.rules.specs.declared.Kind.{Kind}
@@ -29,9 +29,9 @@ use Rattle.listing.proofs.Turn.{all_kept, length_records, single_left, single_sa
 
 -- ---- what a step that is not refused tells of the walk
 
-none_walked : {next : Cursor} (input : List ℕ) (c : Cursor) (ts : List Trailer) → TrailerStep.End next ≡ first_step input c ts → ts ≡ []
+none_walked : {next : Cursor} (input : List ℕ) (c : Cursor) (ts : List Trailer) → step_with None next ≡ first_step input c ts → ts ≡ []
 none_walked input c [] e = refl
-none_walked input c (t ∷ ts) e = cc
+none_walked input c (t ∷ ts) e = let found = ap (λ (s : TrailerStep). s.found) e in cc
 
 record Walked (input : List ℕ) (c : Cursor) (r : TrailerRef) (next : Cursor) (ts : List Trailer) : Type 0 where
   first : Trailer
@@ -40,10 +40,15 @@ record Walked (input : List ℕ) (c : Cursor) (r : TrailerRef) (next : Cursor) (
   record_is : r ≡ record_of (moved_on input c (place_of first)).line first
   next_is : next ≡ moved_on input c (end_of first)
 
-walked : {r : TrailerRef} {next : Cursor} (input : List ℕ) (c : Cursor) (ts : List Trailer) → TrailerStep.Trailer r next ≡ first_step input c ts
+walked : {r : TrailerRef} {next : Cursor} (input : List ℕ) (c : Cursor) (ts : List Trailer) → step_with (Some r) next ≡ first_step input c ts
     → Walked input c r next ts
-walked input c [] e = let z : ◌≡◌ {A = ℕ} 0 1 = cc in absurd (omega arith)
-walked input c (t ∷ ts) e = record { first = t; later = ts; is = refl; record_is = cc; next_is = cc }
+walked input c [] e =
+    let found = ap (λ (s : TrailerStep). s.found) e in
+    let z : ◌≡◌ {A = ℕ} 0 1 = cc in
+    absurd (omega (arith, z))
+walked input c (t ∷ ts) e =
+    let found = ap (λ (s : TrailerStep). s.found) e in
+    record { first = t; later = ts; is = refl; record_is = cc; next_is = ap (λ (s : TrailerStep). s.next) e }
 
 -- its value has room
 has_room : (input : List ℕ) (c : Cursor) (room : ℕ) → number (step_answer Kind.All input c room) ≡ 0
@@ -54,7 +59,7 @@ has_room input c room =
     by : (long fit none : Bool) → ltb room (length (first_writes (only Kind.All (walk_from input c.at)))) ≡ none
         → number (if long || false then says 1 [] else if not fit then says 2 []
         else if none then says 3 (length (first_writes (only Kind.All (walk_from input c.at))) ∷ [])
-        else trailer_step_says (first_step input c (only Kind.All (walk_from input c.at)))) ≡ 0
+        else trailer_step_says (Ok (first_step input c (only Kind.All (walk_from input c.at))))) ≡ 0
         → length (first_writes (only Kind.All (walk_from input c.at))) ≤ room
     by true fit none p e = absurd (omega (arith, e))
     by false false none p e = absurd (omega (arith, e))
@@ -83,11 +88,11 @@ pub steps_give : {input : List ℕ} {c : Cursor} {used : ℕ} {out : List ℕ} {
     → used ≤ length out → (rs ≡ records_of input c used (walk_from input c.at)) × (left ≡ onto used (values_of (walk_from input c.at)) out)
 unfolding records_of values_of
 steps_give {input} {c} {used} {out} (ended next e) h =
-    let q = step_is Kind.All input c (length (drop used out)) (TrailerStep.End next) e refl in
+    let q = step_is Kind.All input c (length (drop used out)) (step_with None next) e in
     let none : walk_from input c.at ≡ [] = none_walked input c (walk_from input c.at) (q ∙ ap (first_step input c) (all_kept (walk_from input c.at))) in
     rw none (refl, sym (onto-nil used out))
 steps_give {input} {c} {used} {out} (stepped {rs = rs} {left = left} r next e more) h =
-    let q = step_is Kind.All input c (length (drop used out)) (TrailerStep.Trailer r next) e refl in
+    let q = step_is Kind.All input c (length (drop used out)) (step_with (Some r) next) e in
     let f = walked input c (walk_from input c.at) (q ∙ ap (first_step input c) (all_kept (walk_from input c.at))) in
     let w : List ℕ = written_of (raw_value f.first) in
     let writes : first_writes (only Kind.All (walk_from input c.at)) ≡ w = ap first_writes (all_kept (walk_from input c.at) ∙ f.is) in
@@ -111,7 +116,7 @@ pub given_by_steps : (input : List ℕ) (c : Cursor) (used : ℕ) (out : List �
 unfolding records_of values_of
 given_by_steps input c used out [] e short placed h =
     let fits : length (first_writes (walk_from input c.at)) ≤ length (drop used out) = rw e (omega arith) in
-    rw (onto-nil used out) (ended (moved_on input c (length input)) (sym (single_says input c (length (drop used out)) short placed fits ∙ ap (λ (us : List Trailer). trailer_step_says (first_step input c us)) e)))
+    rw (onto-nil used out) (ended (moved_on input c (length input)) (sym (single_says input c (length (drop used out)) short placed fits ∙ ap (λ (us : List Trailer). trailer_step_says (Ok (first_step input c us))) e)))
 given_by_steps input c used out (t ∷ ts) e short placed h =
     let w : List ℕ = written_of (raw_value t) in
     let both : length (w ++ values_of ts) ≡ length w + length (values_of ts) = length-append w (values_of ts) in
@@ -126,7 +131,7 @@ given_by_steps input c used out (t ∷ ts) e short placed h =
     let found : TrailerRef = record_of (moved_on input c (place_of t)).line t in
     let behind-it : Steps input next (used + taken found.value) (take used out ++ step_buffer Kind.All input c (drop used out))
     (records_of input next (used + length w) ts) (onto (used + length w) (values_of ts) (onto used w out)) = rw (taken_is (raw_value_at t) (raw_value t), front) others in
-    let said = sym (single_says input c (length (drop used out)) short placed fits ∙ ap (λ (us : List Trailer). trailer_step_says (first_step input c us)) e) in
+    let said = sym (single_says input c (length (drop used out)) short placed fits ∙ ap (λ (us : List Trailer). trailer_step_says (Ok (first_step input c us))) e) in
     rw (onto-append used w (values_of ts) out here) (stepped {c = c} {used = used} {out = out} found next said behind-it)
 
 -- ---- the counts

@@ -1,19 +1,18 @@
 -- All trailers at once: document 02, K1. "Add a listing that fills a caller's table with one record for each trailer, in walk order;
 -- folded values are unfolded one behind another, each into the part of the buffer still free. Table and buffer hold exactly what the
 -- single steps give, called until the end, save that places in the buffer count from its own front; entries and bytes behind them stay."
-use Rattle.std.specs.Prelude.{true, false, List, [], ◌∷◌, ◌++◌, ◌≡◌, ℕ, ◌+◌, ◌-◌, length, take, drop, if◌then◌else◌}
+use Rattle.std.specs.Prelude.{List, [], ◌∷◌, ◌++◌, ◌≡◌, ℕ, ◌+◌, ◌-◌, length, take, drop, Option, Some, None, Ok}
 use Rattle.rules.specs.Answers.{trailer_step_says}
 use Rattle.rules.specs.Number.{moved_on}
-use Rattle.rules.specs.Record.{part, record_of, written_of}
+use Rattle.rules.specs.Record.{part, record_of, step_with, written_of}
 use Rattle.rules.specs.Trailer.{Trailer, end_of, place_of, raw_value, walk_from}
 use Rattle.rules.specs.declared.Cursor.{Cursor}
 use Rattle.rules.specs.declared.Kind.{Kind}
 use Rattle.rules.specs.declared.Part.{Part}
 use Rattle.rules.specs.declared.TrailerRef.{TrailerRef}
-use Rattle.rules.specs.declared.TrailerStep.{TrailerStep}
 use Rattle.rules.specs.declared.Value.{Value}
 use Rattle.body.specs.Body.{step_answer, step_buffer}
-use Rattle.listing.specs.declared.Told.{Told}
+use Rattle.listing.specs.declared.FromEnd.{FromEnd}
 
 -- "places in the buffer count from its own front": those of a value in a tail that begins behind n bytes of it
 abbrev pub shifted : ℕ → Value → Value
@@ -32,9 +31,9 @@ taken (Value.InBuffer p) = p.end
 -- the buffer used, they give these records and leave this buffer
 pub data Steps (input : List ℕ) : Cursor → ℕ → List ℕ → List TrailerRef → List ℕ → Type 0 where
   ended : {c : Cursor} {used : ℕ} {out : List ℕ} (next : Cursor)
-      → trailer_step_says (TrailerStep.End next) ≡ step_answer Kind.All input c (length (drop used out)) → Steps input c used out [] out
+      → trailer_step_says (Ok (step_with None next)) ≡ step_answer Kind.All input c (length (drop used out)) → Steps input c used out [] out
   stepped : {c : Cursor} {used : ℕ} {out : List ℕ} {rs : List TrailerRef} {left : List ℕ} (r : TrailerRef) (next : Cursor)
-      → trailer_step_says (TrailerStep.Trailer r next) ≡ step_answer Kind.All input c (length (drop used out))
+      → trailer_step_says (Ok (step_with (Some r) next)) ≡ step_answer Kind.All input c (length (drop used out))
       → Steps input next (used + taken r.value) (take used out ++ step_buffer Kind.All input c (drop used out)) rs left
       → Steps input c used out (shifted_record used r ∷ rs) left
 
@@ -73,20 +72,18 @@ told_value size (Value.InInput p) = Value.InInput (distances size p)
 told_value size (Value.InBuffer p) = Value.InBuffer p
 
 -- told from the front, or from the end of `size` bytes, with so many lines from the walk's start on
-abbrev pub from_front : Told
-from_front = record { from_end = false; size = 0; lines = 0 }
+abbrev pub from_front : Option FromEnd
+from_front = None
 
-abbrev pub from_end : ℕ → ℕ → Told
-from_end size lines = record { from_end = true; size = size; lines = lines }
+abbrev pub from_end : ℕ → ℕ → Option FromEnd
+from_end size lines = Some (record { size = size; lines = lines })
 
 -- a record as it is told; its line was counted from 1 at the walk's start
-abbrev pub tell : Told → TrailerRef → TrailerRef
-tell told r =
-    if told.from_end then
-    record {
-      token = distances told.size r.token;
-      value = told_value told.size r.value;
-      ending = r.ending;
-      line = told.lines + 1 - r.line;
-    }
-    else r
+abbrev pub tell : Option FromEnd → TrailerRef → TrailerRef
+tell None r = r
+tell (Some end) r = record {
+  token = distances end.size r.token;
+  value = told_value end.size r.value;
+  ending = r.ending;
+  line = end.lines + 1 - r.line;
+}

@@ -1,7 +1,10 @@
 // All trailers at once (document 02, K1): the plain types that the definitions of specs/ speak of.
 #![tactic(auto)]
 
-use rules::{Cursor, Places, TrailerRef};
+ghost use Rattle.std.specs.Prelude.{◌≡◌};
+ghost use Rattle.listing.specs.declared.ListingError.{ListingError};
+
+use rules::{Cursor, Places, TooLong, TrailerRef};
 
 // The records, and the bytes of the buffer: those that are written, or that are needed.
 #[derive(Clone, Copy)]
@@ -10,12 +13,16 @@ pub struct Counts {
     pub bytes: usize,
 }
 
-// Of a call that lists; `ShortTable` and `NoRoom` have the counts needed. `FootListed` has the lines looked at too (document 02, K6), and
-// `MoreBytes` is for a foot alone.
-#[derive(Drop)]
-pub enum Listing {
-    Listed(Counts),
-    FootListed { counts: Counts, looked: usize },
+// Of a call that lists: what is written; and, of a foot, how many lines were looked at (document 02, K6).
+#[derive(Clone, Copy)]
+pub struct Listed {
+    pub counts: Counts,
+    pub looked: Option<usize>,
+}
+
+// Why a call that lists refuses; `ShortTable` and `NoRoom` have the counts needed, and `MoreBytes` is for a foot alone.
+#[derive(Clone, Copy)]
+pub enum ListingError {
     TooLong,
     BadPlace,
     MoreBytes,
@@ -23,37 +30,42 @@ pub enum Listing {
     NoRoom(Counts),
 }
 
-// How a record tells its places in the input and its line: from the front, or from the end of an input of `size` bytes, `lines` of whose
-// lines stand from the walk's start on.
+impl From<TooLong> for ListingError {
+    ghost from_gives = { λ _ e. e ≡ ListingError.TooLong };
+
+    fn from(_over: TooLong) -> ListingError {
+        ListingError::TooLong
+    }
+}
+
+// A record that is told from the end has its places as distances from the end of `size` bytes, and its line is counted upward from the
+// last of the `lines` that stand from the walk's start on.
 #[derive(Clone, Copy)]
-pub struct Told {
-    pub from_end: bool,
+pub struct FromEnd {
     pub size: usize,
     pub lines: usize,
 }
 
-// Where a listing stands: how far the input is read, the walk's cursor, 1 where a trailer is ahead and 0 where none is, its places, and
-// what is written so far. It has numbers alone, since each turn copies it: the padding of a bool or an enum would make that slow.
-#[derive(Drop)]
+// Where a listing stands: the walk's cursor, where the trailer ahead stands, and what is written so far.
+#[derive(Clone, Copy)]
 pub struct Spot {
-    pub end: usize,
     pub cursor: Cursor,
-    pub more: usize,
-    pub ahead: Places,
+    pub ahead: Option<Places>,
     pub done: Counts,
 }
 
-// Where a listing begins: the spot, what it answers, and how its records are told. Where it is not refused, the counts of the answer are
-// put in at the end.
-#[derive(Drop)]
+// Where a listing begins that is not refused: how far the input is read; the spot; of a foot, the lines looked at; and how its records are
+// told, from the front or from the end.
+#[derive(Clone, Copy)]
 pub struct Beginning {
+    pub end: usize,
     pub spot: Spot,
-    pub outcome: Listing,
-    pub told: Told,
+    pub looked: Option<usize>,
+    pub told: Option<FromEnd>,
 }
 
-// Of `list_step`: the next record, and where the listing stands behind it.
-#[derive(Drop)]
+// Of `list_step`: the next record, and where the listing stands after it.
+#[derive(Clone, Copy)]
 pub struct Step {
     pub found: TrailerRef,
     pub next: Spot,

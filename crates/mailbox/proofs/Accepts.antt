@@ -1,17 +1,16 @@
 -- What the grammar derives is read, with the same ranges (accepts). One law for each piece: a state, behind the piece's bytes,
 -- is a state. Places are taken with an equation, so that nothing is transported. Assumes nothing.
-use Rattle.std.specs.Prelude.{if◌then◌else◌}
-use mathlib.Core.Bool.{Bool, true, false, not, ◌||◌}
+use mathlib.Core.Bool.{Bool, not}
 use mathlib.Core.List.{List, [], ◌∷◌, ◌++◌, append_assoc, append-nil}
 use mathlib.Core.Path.{◌≡◌, refl, sym, ap, ◌∙◌}
-use Prim.Native.Nat.{ℕ, zero, suc, ◌+◌}
+use Prim.Native.Nat.{ℕ, suc, ◌+◌}
 use native.Mathlib.Omega.{arith}
 use lib.Dec.{T, eqb}
 use lib.ListN.{length, length-append}
 use Rattle.rules.specs.Lists.{Stops}
 use Rattle.mailbox.specs.Grammar.{white_byte, atext, quote_text, comment_text, takes, Inside, Gap, Atom, DotAtom, Quoted, Word, Words, Names, Ranges, ranges, Mailbox, Answer, accepted}
 use Rattle.mailbox.specs.Reader.{Named, Half, Home, State, home, atom, quote, quote_taken, text, dotted, inside, inside_taken, names, opened, behind, closed}
-use Rattle.mailbox.specs.Reader.{local, domain, none, some, from_of, to_of, sign_of, next, step, read, start}
+use Rattle.mailbox.specs.Reader.{local, domain, none, some, from_of, sign_of, next, step, read, start}
 use Rattle.rules.proofs.Lists.{is_true, is_false}
 use Rattle.mailbox.proofs.Tests.{differs, atext_not_white, white_not_atext}
 

@@ -1,29 +1,34 @@
 -- A statement `mailbox_says r ≡ ..` allows one answer (mailbox_decides): each answer is told from what is said of it. Assumes nothing.
-use Rattle.std.specs.Prelude.{if◌then◌else◌}
+use Rattle.std.specs.Prelude.{Err, if◌then◌else◌}
 use mathlib.Core.List.{List, [], ◌∷◌}
-use mathlib.Core.Path.{◌≡◌, refl, sym, ap, ◌∙◌}
-use Prim.Native.Nat.{ℕ, zero, suc}
+use mathlib.Core.Path.{◌≡◌, refl}
+use Prim.Native.Nat.{ℕ}
 use lib.Dec.{eqb}
-use Rattle.rules.specs.Answers.{Said, says}
 use Rattle.rules.specs.declared.Part.{Part}
-use Rattle.mailbox.specs.Answers.{mailbox_says}
-use Rattle.mailbox.specs.declared.MailboxFound.{MailboxFound}
+use Rattle.rules.proofs.Answers.{Decides, reread, said_decides}
+use Rattle.mailbox.specs.Answers.{mailbox_says, mailbox_values, mailbox_error_says}
+use Rattle.mailbox.specs.declared.Mailbox.{Mailbox}
+use Rattle.mailbox.specs.declared.MailboxError.{MailboxError}
 
 abbrev part : ℕ → ℕ → Part
 part start end = record { start = start; end = end }
 
-abbrev answer : Said → MailboxFound
-answer (says n []) = MailboxFound.TooLong
-answer (says n (at ∷ [])) = if eqb n 14 then MailboxFound.NotAMailbox at else MailboxFound.NinthComment at
-answer (says n (a ∷ b ∷ [])) = MailboxFound.TooLong
-answer (says n (a ∷ b ∷ c ∷ [])) = MailboxFound.TooLong
-answer (says n (a ∷ b ∷ c ∷ d ∷ rest)) = MailboxFound.Mailbox (part a b) (part c d)
+abbrev found : List ℕ → Mailbox
+found (a ∷ b ∷ c ∷ d ∷ rest) = record { name = part a b; address = part c d }
+found [] = record { name = part 0 0; address = part 0 0 }
+found (a ∷ []) = record { name = part 0 0; address = part 0 0 }
+found (a ∷ b ∷ []) = record { name = part 0 0; address = part 0 0 }
+found (a ∷ b ∷ c ∷ []) = record { name = part 0 0; address = part 0 0 }
 
-back : (a : MailboxFound) → answer (mailbox_says a) ≡ a
-back (MailboxFound.Mailbox name address) = refl
-back MailboxFound.TooLong = refl
-back (MailboxFound.NotAMailbox at) = refl
-back (MailboxFound.NinthComment at) = refl
+-- by the number less one
+abbrev error : ℕ → List ℕ → MailboxError
+error n [] = MailboxError.TooLong
+error n (at ∷ rest) = if eqb n 13 then MailboxError.NotAMailbox at else MailboxError.NinthComment at
 
-pub mailbox_decides : (a b : MailboxFound) → mailbox_says a ≡ mailbox_says b → a ≡ b
-mailbox_decides a b e = sym (back a) ∙ ap answer e ∙ back b
+pub mailbox_decides : Decides mailbox_says
+mailbox_decides = said_decides mailbox_values mailbox_error_says found error (λ m. refl) by
+  where
+    by : (e : MailboxError) → reread found error (mailbox_error_says e) ≡ Err e
+    by MailboxError.TooLong = refl
+    by (MailboxError.NotAMailbox at) = refl
+    by (MailboxError.NinthComment at) = refl

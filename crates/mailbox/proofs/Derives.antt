@@ -8,10 +8,10 @@ use Prim.Native.Nat.{ℕ, zero, suc, ◌+◌}
 use native.Mathlib.Omega.{arith}
 use lib.Dec.{T, eqb, eqb→eq}
 use lib.ListN.{length, length-append}
-use Rattle.rules.specs.Lists.{All, Stops}
-use Rattle.mailbox.specs.Grammar.{white_byte, atext, quote_text, comment_text, takes, Inside, Gap, Atom, DotAtom, Quoted, Word, Words, Names, Ranges, ranges, Mailbox, Answer, accepted, refused}
+use Rattle.rules.specs.Lists.{Stops}
+use Rattle.mailbox.specs.Grammar.{white_byte, atext, quote_text, comment_text, takes, Inside, Gap, Atom, DotAtom, Quoted, Word, Words, Names, Ranges, Mailbox, accepted, refused}
 use Rattle.mailbox.specs.Reader.{Named, Half, Home, State, home, atom, quote, quote_taken, text, dotted, inside, inside_taken, dead, names, opened, behind, closed}
-use Rattle.mailbox.specs.Reader.{local, domain, none, some, from_of, to_of, sign_of, next, opening, closing, begin, spaced, step, finish, read, start}
+use Rattle.mailbox.specs.Reader.{local, some, from_of, to_of, sign_of, next, opening, closing, begin, spaced, step, finish, read, start}
 
 -- a state; or a home, behind its white space and comments
 data Spot : Type 0 where

@@ -1,17 +1,17 @@
 -- A byte that is refused with 15 stands inside as many open comments as are allowed (ninth_inside_eight): a supplement to
 -- `Ninth`, which says it by the grammar alone. Assumes nothing.
 use Rattle.std.specs.Prelude.{if◌then◌else◌}
-use mathlib.Core.Bool.{Bool, true, false, not}
+use mathlib.Core.Bool.{Bool, true, false}
 use mathlib.Core.List.{List, [], ◌∷◌, ◌++◌, append_assoc, append-nil}
 use mathlib.Core.Path.{◌≡◌, refl, sym, ap, ◌∙◌}
 use Prim.Native.Nat.{ℕ, zero, suc, ◌+◌}
 use native.Mathlib.Omega.{arith}
 use lib.Dec.{T, eqb, eqb→eq}
 use lib.ListN.{length}
-use Rattle.mailbox.specs.Grammar.{white_byte, atext, quote_text, comment_text, takes, Inside, Answer, refused}
-use Rattle.mailbox.specs.Reader.{Named, Half, Home, State, home, atom, quote, quote_taken, text, dotted, inside, inside_taken, dead, names, opened, behind, closed}
-use Rattle.mailbox.specs.Reader.{some, sign_of, next, from_of, to_of, local, opening, closing, begin, spaced, step, read, start}
-use Rattle.mailbox.proofs.Refusals.{Live, state_after, Fate, Fall, falls}
+use Rattle.mailbox.specs.Grammar.{white_byte, atext, quote_text, comment_text, takes, Inside, refused}
+use Rattle.mailbox.specs.Reader.{Home, State, home, atom, quote, quote_taken, text, dotted, inside, inside_taken, dead, names, opened, behind, closed}
+use Rattle.mailbox.specs.Reader.{some, sign_of, opening, closing, begin, spaced, step, read, start}
+use Rattle.mailbox.proofs.Refusals.{Live, state_after, Fate, falls}
 
 -- behind u, n comments are open at the end of s, one inside the other, and d more may be opened
 pub data Open (deep : ℕ) (u : List ℕ) : ℕ → ℕ → List ℕ → Type 0 where

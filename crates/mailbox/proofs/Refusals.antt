@@ -2,20 +2,20 @@
 -- can be completed (completes); a state and the one that allows comments one deeper go together (together), up to the bracket
 -- at which the first dies of depth. Assumes nothing.
 use Rattle.std.specs.Prelude.{if◌then◌else◌}
-use mathlib.Core.Bool.{Bool, true, false, not}
-use mathlib.Core.List.{List, [], ◌∷◌, ◌++◌, append_assoc, append-nil}
+use mathlib.Core.Bool.{Bool, true, false}
+use mathlib.Core.List.{List, [], ◌∷◌, ◌++◌, append_assoc}
 use mathlib.Core.Logic.{◌⊎◌, inl, inr}
 use mathlib.Core.Path.{◌≡◌, refl, sym, ap, ◌∙◌}
 use Prim.Native.Nat.{ℕ, zero, suc, ◌+◌}
 use native.Mathlib.Omega.{arith}
 use lib.Dec.{T, eqb, eqb→eq}
-use lib.ListN.{length, length-append}
+use lib.ListN.{length}
 use Rattle.rules.proofs.Lists.{Earlier, cuts}
-use Rattle.mailbox.specs.Grammar.{white_byte, atext, quote_text, comment_text, takes, Ranges, ranges, Mailbox, Answer, accepted, refused}
-use Rattle.mailbox.specs.Reader.{Named, Half, Home, State, home, atom, quote, quote_taken, text, dotted, inside, inside_taken, dead, names, opened, behind, closed}
-use Rattle.mailbox.specs.Reader.{local, domain, none, some, from_of, to_of, sign_of, next, opening, closing, begin, spaced, step, finish, read, start, mailbox}
+use Rattle.mailbox.specs.Grammar.{white_byte, atext, quote_text, comment_text, takes, Ranges, Answer, accepted, refused}
+use Rattle.mailbox.specs.Reader.{Home, State, home, atom, quote, quote_taken, text, dotted, inside, inside_taken, dead, names, opened, behind, closed}
+use Rattle.mailbox.specs.Reader.{local, domain, some, sign_of, opening, closing, begin, spaced, step, finish, read, start, mailbox}
 use Rattle.mailbox.specs.Place as place
-use Rattle.mailbox.proofs.Accepts.{accepts, one_way}
+use Rattle.mailbox.proofs.Accepts.{accepts}
 use Rattle.mailbox.proofs.Derives.{derives}
 
 abbrev pub Live : State → Type 0

@@ -1,12 +1,12 @@
 -- A mailbox has one derivation: its pieces are determined (one_derivation). Assumes nothing.
-use mathlib.Core.Bool.{Bool, true, false, not, ◌||◌}
+use mathlib.Core.Bool.{Bool, not, ◌||◌}
 use mathlib.Core.List.{List, [], ◌∷◌, ◌++◌, append_assoc, append-nil}
 use mathlib.Core.Path.{◌≡◌, refl, sym, ap, ◌∙◌}
-use Prim.Native.Nat.{ℕ, suc}
+use Prim.Native.Nat.{ℕ}
 use native.Mathlib.Omega.{arith}
-use lib.Dec.{T, T_not, not_T, eqb}
+use lib.Dec.{T, eqb}
 use Rattle.rules.specs.Lists.{All, Stops}
-use Rattle.mailbox.specs.Grammar.{white_byte, atext, quote_text, comment_text, takes, Inside, Gap, Atom, DotAtom, Quoted, Word, Words, Names, Ranges, Mailbox, words_in, names_in, pieces}
+use Rattle.mailbox.specs.Grammar.{white_byte, atext, quote_text, comment_text, Inside, Gap, Atom, DotAtom, Quoted, Word, Words, Names, Ranges, Mailbox, words_in, names_in, pieces}
 use Rattle.mailbox.proofs.Accepts.{gap_stops}
 use Rattle.rules.proofs.Lists.{clash, is_true, is_false, run_unique}
 use Rattle.mailbox.proofs.Tests.{differs, atext_not_white, white_not_atext}

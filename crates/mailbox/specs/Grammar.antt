@@ -1,6 +1,6 @@
 -- The mailbox: document 02, K14, "Read an unfolded value as an RFC 5322 mailbox with angle brackets". Its byte classes are those
 -- of RFC 5322, 3.2.1 to 3.2.4; "no obsolete form counts". `deep` is how deep comments may stand one inside the other.
-use Rattle.std.specs.Prelude.{Bool, ◌&&◌, ◌||◌, List, [], ◌∷◌, ◌++◌, ◌≡◌, ℕ, suc, ◌+◌, T, eqb, leb, length}
+use Rattle.std.specs.Prelude.{Bool, ◌||◌, List, [], ◌∷◌, ◌++◌, ◌≡◌, ℕ, suc, ◌+◌, T, eqb, leb, length}
 use Rattle.rules.specs.Bytes.{bytes, within}
 use Rattle.rules.specs.Lists.{Stops, any}
 

@@ -1,6 +1,6 @@
 -- Computed: the only answer that `Says` (Place) allows, byte by byte (proofs/Refusals, answer_says and answer_only). What has been
 -- read is one of a few states, each with the places that it has seen.
-use Rattle.std.specs.Prelude.{Bool, true, false, List, [], ◌∷◌, ℕ, zero, suc, ◌+◌, eqb, if◌then◌else◌}
+use Rattle.std.specs.Prelude.{List, [], ◌∷◌, ℕ, zero, suc, eqb, if◌then◌else◌}
 use Rattle.mailbox.specs.Grammar.{white_byte, atext, quote_text, comment_text, takes, Ranges, ranges, Answer, accepted, refused, deepest}
 
 -- the words so far: none; or some, with the first one's start and the last one's end

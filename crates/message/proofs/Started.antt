@@ -1,4 +1,5 @@
 -- Where the walk of a message's trailers begins. Assumes nothing.
+use Rattle.std.specs.Prelude.{Result, Ok, Err}
 use mathlib.Core.Bool.{Bool, true, false}
 use mathlib.Core.List.{List, [], ◌∷◌}
 use mathlib.Core.Path.{◌≡◌, refl, ap, ◌∙◌}
@@ -12,8 +13,8 @@ use Rattle.rules.specs.Answers.{says, judged, over_limit, row, too_long, up_to, 
 use Rattle.rules.specs.Lists.{any}
 use Rattle.rules.specs.Number.{cursor_fits}
 use Rattle.rules.specs.declared.Cursor.{Cursor}
-use Rattle.rules.specs.declared.WalkFound.{WalkFound}
 use Rattle.message.specs.Message.{walk_answer, walk_answer_before, walk_start}
+use Rattle.rules.specs.declared.Refusal.{Refusal}
 
 pub walk_fits : (m : List ℕ) → (walk_start m).at ≤ length m
 walk_fits m = start_in_message m
@@ -25,7 +26,7 @@ cursor_in (at ∷ []) = record { at = at; line = 0 }
 cursor_in (at ∷ line ∷ more) = record { at = at; line = line }
 
 -- the cursor that is answered is the right one there, so a step from it is not refused for its place
-pub started : (m : List ℕ) (c : Cursor) → walk_found_says (WalkFound.From c) ≡ walk_answer m → (c ≡ walk_start m) × (cursor_fits c m ≡ true)
+pub started : (m : List ℕ) (c : Cursor) → walk_found_says (Ok c) ≡ walk_answer m → (c ≡ walk_start m) × (cursor_fits c m ≡ true)
 started m c e =
     let said = judged_answer (too_long (m ∷ []) ∷ []) tt refl e in
     let is : c ≡ walk_start m = ap cursor_in (ap values said) in

@@ -1,5 +1,5 @@
 -- What the parts of a summary answer, in the numbers and values that its statement gives. Assumes nothing.
-use Rattle.std.specs.Prelude.{if◌then◌else◌}
+use Rattle.std.specs.Prelude.{Result, Ok, Err, if◌then◌else◌}
 use mathlib.Core.Bool.{Bool, true, false}
 use mathlib.Core.List.{List, [], ◌∷◌}
 use mathlib.Core.Path.{◌≡◌, refl, ◌∙◌}
@@ -15,7 +15,6 @@ use Rattle.rules.specs.Summary.{many, pieces, spaced, summary, summary_is_writte
 use Rattle.rules.specs.White.{trim, trim_at}
 use Rattle.rules.specs.declared.Refusal.{Refusal}
 use Rattle.rules.specs.declared.Value.{Value}
-use Rattle.rules.specs.declared.ValueFound.{ValueFound}
 use Rattle.message.specs.Message.{summary_answer, summary_buffer}
 
 -- what is said of a text that is written where there is room
@@ -24,7 +23,7 @@ written_said : (text : List ℕ) (room : ℕ)
 written_said text room = by (ltb room (length text))
   where
     by : (b : Bool)
-        → value_found_says (if b then ValueFound.Refused (Refusal.NoRoom (length text)) else ValueFound.At (Value.InBuffer (part 0 (length text))))
+        → value_found_says (if b then Err (Refusal.NoRoom (length text)) else Ok (Value.InBuffer (part 0 (length text))))
         ≡ (if b then says 3 (length text ∷ []) else says 0 (1 ∷ 0 ∷ length text ∷ []))
     by true = refl
     by false = refl
@@ -43,7 +42,7 @@ module _ (title : List ℕ) (short : ltb limit (length title) ≡ false) {kept :
 
   -- with none, it is a part of the title, and nothing is written
   pub summary-part : many (pieces kept) ≡ false → (room : ℕ)
-      → value_found_says (ValueFound.At (Value.InInput (part (trim_at title) (trim_at title + length (trim title))))) ≡ summary_answer title room
+      → value_found_says (Ok (Value.InInput (part (trim_at title) (trim_at title + length (trim title))))) ≡ summary_answer title room
   unfolding summary_is_written
   summary-part q room = rw (short, ← e, q, le-ltb room 0 (omega arith))
 

@@ -1,6 +1,6 @@
 -- What each call on a whole message, or on a title, answers and leaves in the buffer: document 01's rules behind its refusal
 -- table.
-use Rattle.std.specs.Prelude.{List, [], ◌∷◌, ℕ, ◌+◌, length, if◌then◌else◌}
+use Rattle.std.specs.Prelude.{List, [], ◌∷◌, ℕ, ◌+◌, length, Result, Ok, Err, if◌then◌else◌}
 use Rattle.rules.specs.Answers.{Said, says, judged, too_long, no_room, afterwards, value_found_says, walk_found_says}
 use Rattle.rules.specs.Number.{cursor_at}
 use Rattle.rules.specs.Paragraph.{block_start}
@@ -10,8 +10,7 @@ use Rattle.rules.specs.Title.{body, body_start}
 use Rattle.rules.specs.White.{trim, trim_at}
 use Rattle.rules.specs.declared.Cursor.{Cursor}
 use Rattle.rules.specs.declared.Value.{Value}
-use Rattle.rules.specs.declared.ValueFound.{ValueFound}
-use Rattle.rules.specs.declared.WalkFound.{WalkFound}
+use Rattle.rules.specs.declared.Refusal.{Refusal}
 
 -- ---- `summary` and `message_summary`: of a title, or of a whole message
 
@@ -25,7 +24,7 @@ summary_of s =
 
 abbrev pub summary_answer : List ℕ → ℕ → Said
 summary_answer s room =
-    judged (too_long (s ∷ []) ∷ no_room (length (summary_writes s)) room ∷ []) (value_found_says (ValueFound.At (summary_of s)))
+    judged (too_long (s ∷ []) ∷ no_room (length (summary_writes s)) room ∷ []) (value_found_says (Ok (summary_of s)))
 
 abbrev pub summary_buffer : List ℕ → List ℕ → List ℕ
 summary_buffer s out = afterwards (summary_answer s (length out)) (summary_writes s) out
@@ -37,7 +36,7 @@ abbrev pub walk_start : List ℕ → Cursor
 walk_start message = cursor_at message (body_start message + block_start (body message))
 
 abbrev pub walk_answer : List ℕ → Said
-walk_answer message = judged (too_long (message ∷ []) ∷ []) (walk_found_says (WalkFound.From (walk_start message)))
+walk_answer message = judged (too_long (message ∷ []) ∷ []) (walk_found_says (Ok (walk_start message)))
 
 -- what it said before document 02's K8: the position alone (proofs/Started, walk_before)
 abbrev pub walk_answer_before : List ℕ → Said

@@ -9,13 +9,13 @@ ghost use Rattle.message.specs.Message.{summary_answer, summary_buffer, walk_ans
 
 use numbering::right_cursor;
 use paragraph::trailer_block_start;
-use rules::{LIMIT, Part, Refusal, Value, ValueFound, WalkFound};
+use rules::{Cursor, Refusal, Value, within_limit};
 use summary::{first_lf, summarise};
 use title::title_and_body;
 use white::trim_text;
 
 // The summary of a whole message, by the rule for a title. It is not always that of its title, since the body is read too.
-pub fn message_summary(message: &[u8], out: &mut [u8]) -> ValueFound
+pub fn message_summary(message: &[u8], out: &mut [u8]) -> Result<Value, Refusal>
     ensures result_value { value_found_says result ≡ summary_answer message.now (length out.old) }
     ensures out_after { out.new ≡ summary_buffer message.now out.old }
 {
@@ -23,33 +23,26 @@ pub fn message_summary(message: &[u8], out: &mut [u8]) -> ValueFound
 }
 
 // Where the walk of the message's trailers begins: at the trailer block of its body, or at its end where it has none.
-pub fn message_trailers(message: &[u8]) -> WalkFound
+pub fn message_trailers(message: &[u8]) -> Result<Cursor, Refusal>
     ensures { walk_found_says result ≡ walk_answer message.now }
 {
-    if message.len() > LIMIT {
-        return WalkFound::Refused(Refusal::TooLong);
-    }
-    let places = title_and_body(message);
-    let body_start = places.body_start;
+    within_limit(message)?;
+    let body_start = title_and_body(message).body_start;
     let at = body_start + trailer_block_start(&message[body_start..]);
-    WalkFound::From(right_cursor(message, at))
+    Ok(right_cursor(message, at))
 }
 
 // The summary of a title: with no LF left in it once it is trimmed, that part of it; otherwise, folded, the front of `out`.
-pub fn summary(title: &[u8], out: &mut [u8]) -> ValueFound
+pub fn summary(title: &[u8], out: &mut [u8]) -> Result<Value, Refusal>
     ensures result_value { value_found_says result ≡ summary_answer title.now (length out.old) }
     ensures out_after { out.new ≡ summary_buffer title.now out.old }
 {
-    if title.len() > LIMIT {
-        return ValueFound::Refused(Refusal::TooLong);
-    }
+    within_limit(title)?;
     let part = trim_text(title);
-    let start = part.start;
-    let end = part.end;
-    let message = &title[start..end];
+    let message = &title[part.start..part.end];
     let first = first_lf(message);
     if first < message.len() {
         return summarise(message, first, out);
     }
-    ValueFound::At(Value::InInput(Part { start, end }))
+    Ok(Value::InInput(part))
 }

@@ -6,23 +6,22 @@ use std::io::Write;
 use std::rt::{Env, Files};
 
 fn main(rt: HostRuntime) {
-    let count = arg_count(&rt);
-    for i in 1..count {
+    for i in 1..arg_count(&rt) {
         report_night(&rt, &mut rt.stdout(), &mut rt.stderr(), i);
     }
 }
 
 // Reports the bundle in the file that argument `i` names, or says why it cannot be opened.
 fn report_night<R: Env + Files, W: Write, E: Write>(rt: &R, out: &mut W, errors: &mut E, i: usize) {
-    let mut name = buffer();
-    let len = arg(rt, i, &mut name);
-    match open_read(rt, &name[..len]) {
+    let mut space = buffer();
+    let name = arg(rt, i, &mut space);
+    match open_read(rt, name) {
         Ok(mut file) => {
             write_all(out, b"== ");
-            write_all(out, &name[..len]);
+            write_all(out, name);
             write_all(out, b"\n");
             reporting::report(&mut file, out);
         }
-        Err(error) => fail(errors, &name[..len], error),
+        Err(error) => fail(errors, name, error),
     }
 }

@@ -13,15 +13,7 @@ use rules::Cursor;
 pub fn cursor_fits(cursor: Cursor, input: &[u8]) -> bool
     ensures { result ≡ cursor_fits cursor input.now }
 {
-    let at = cursor.at;
-    let line = cursor.line;
-    if input.len() < at {
-        return false;
-    }
-    if line < 1 {
-        return false;
-    }
-    line <= at + 1
+    cursor.at <= input.len() && 1 <= cursor.line && cursor.line <= cursor.at + 1
 }
 
 // A cursor, moved on to a later place: the LFs between are counted.
@@ -29,8 +21,7 @@ pub fn move_on(input: &[u8], cursor: Cursor, at: usize) -> Cursor
     requires { (cursor.line ≤ cursor.at + 1) × (cursor.at ≤ at) × (at ≤ length input.now) }
     ensures { result ≡ moved_on input.now cursor at }
 {
-    let from = cursor.at;
-    let line = cursor.line + count_lf(input, from, at);
+    let line = cursor.line + count_lf(input, cursor.at, at);
     Cursor { at, line }
 }
 
@@ -44,11 +35,7 @@ pub fn move_over(input: &[u8], cursor: Cursor, first: usize, at: usize) -> Curso
     if first != at {
         return move_on(input, cursor, at);
     }
-    if input[at - 1] == b'\n' {
-        let line = cursor.line + 1;
-        return Cursor { at, line };
-    }
-    let line = cursor.line;
+    let line = cursor.line + usize::from(input[at - 1] == b'\n');
     Cursor { at, line }
 }
 

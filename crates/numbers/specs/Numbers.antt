@@ -1,10 +1,8 @@
 -- How an answer crosses to C and Rust, where only numbers and slices can: its number is returned as a code, and its values
 -- are written to a lent slice `result`, behind an entry that says how many they are. What the answers are is said elsewhere
 -- (crates/rules/specs/Answers, crates/message/specs); the code 255, and 254 of crates/exports/specs/ByKind, are added here.
-use Rattle.std.specs.Prelude.{Bool, List, [], ◌∷◌, ◌++◌, ℕ, suc, ltb, length, drop, get_or, if◌then◌else◌}
+use Rattle.std.specs.Prelude.{Bool, List, [], ◌∷◌, ◌++◌, ℕ, suc, ltb, length, drop, if◌then◌else◌}
 use Rattle.rules.specs.Answers.{Said, number, values}
-use Rattle.rules.specs.declared.Kind.{Kind}
-use Rattle.numbers.specs.declared.Asked.{Asked}
 
 -- Every call asks for a `result` of sixteen entries: one for how many values there are, and fifteen, since no answer has more.
 abbrev pub result_length : ℕ
@@ -27,14 +25,3 @@ result_of said result =
 -- what is in the buffer then: where `result` is too short, what was in it; otherwise what the call leaves there
 abbrev pub buffer_of : List ℕ → List ℕ → List ℕ → List ℕ
 buffer_of left buffer result = if short result then buffer else left
-
--- ---- a kind by its number, in the order of `Kind`
-
-abbrev pub kinds : List Asked
-kinds =
-    Asked.Of Kind.All ∷ Asked.Of Kind.SignedOffBy ∷ Asked.Of Kind.CoAuthoredBy ∷ Asked.Of Kind.AssistedBy
-    ∷ Asked.Of Kind.AckedBy ∷ Asked.Of Kind.ReviewedBy ∷ Asked.Of Kind.TestedBy ∷ Asked.Of Kind.Attribution
-    ∷ Asked.Of Kind.Author ∷ []
-
-abbrev pub kind_of : ℕ → Asked
-kind_of n = get_or kinds n Asked.NoKind

@@ -1,23 +1,24 @@
 -- The line that is asked for, by where it starts and where the one below it does. Assumes nothing.
+use Rattle.std.specs.Prelude.{Result, Ok, Err, if◌then◌else◌}
+use mathlib.Core.Bool.{Bool, true, false}
 use mathlib.Core.List.{List, [], ◌∷◌, ◌++◌, append_assoc}
-use mathlib.Core.Path.{◌≡◌, sym, ap, ◌∙◌}
+use mathlib.Core.Path.{◌≡◌, refl, sym, ap, ◌∙◌}
 use Prim.Native.Nat.{ℕ, zero, suc, ◌+◌, ◌-◌, ◌≤◌, ◌<◌}
 use native.Mathlib.Omega.{arith}
-use borrow.Author.Tests.{le-ltb}
 use lib.ListN.{length, take, drop, length-append, length-drop}
 use lib.Seq.{drop-append_seam}
-use Rattle.rules.specs.Answers.{Said, says, limit}
+use Rattle.rules.specs.Answers.{Said, says, limited, over_limit}
 use Rattle.rules.specs.Bytes.{LF, space}
 use Rattle.rules.specs.Lists.{All, run}
-use Rattle.rules.specs.declared.Part.{Part}
+use Rattle.rules.specs.declared.TooLong.{TooLong}
 use Rattle.rules.proofs.Lists.{run_cut}
 use Rattle.commit.specs.Answers.{placed, line_of, line_in, message_start, message_in, behind_header}
 use Rattle.commit.specs.Grammar.{name_byte, HeaderLine, named, written, written_all}
-use Rattle.commit.specs.Place.{refused}
 use Rattle.commit.specs.Reader.{commit}
 use Rattle.commit.proofs.Answers.{commit_good, line_end, message_length}
 use Rattle.commit.proofs.Completing.{good_completing, all_written, Lines, none, more, completing_lines}
 use Rattle.judge.specs.Scan.{start_of, GoodHeader}
+use Rattle.judge.specs.declared.Header.{Header}
 
 -- ---- a line among the header's
 
@@ -69,12 +70,12 @@ pub record There (content : List ℕ) (k start end : ℕ) : Type 0 where
   pub values : line_in k (commit content) ≡ placed start (named name text)
   pub long : end ≡ start + length (written (named name text))
 
-pub there : (content : List ℕ) (k lines start : ℕ) (line : Part) → GoodHeader content k lines line start → k < lines → There content k line.start line.end
-there content k lines start line g h =
+pub there : (content : List ℕ) (k : ℕ) (w : Header) → GoodHeader content k w → k < w.lines → There content k w.line.start w.line.end
+there content k w g h =
     let m : List ℕ = LF ∷ g.message in
     let r = stands m 0 k (completing_lines (good_completing g.good)) (omega (arith, g.count)) in
-    let i : line.start ≡ start_of g.header k = g.line_start h in
-    let j : 0 + start_of g.header k ≡ line.start = omega (arith, i) in
+    let i : w.line.start ≡ start_of g.header k = g.line_start h in
+    let j : 0 + start_of g.header k ≡ w.line.start = omega (arith, i) in
     record {
       name = r.name;
       text = r.text;
@@ -102,38 +103,38 @@ pub name_long : (content : List ℕ) (k start end q : ℕ) (l : There content k 
 name_long content k start end q l e =
     e ∙ ap (λ (z : List ℕ). start + length z) (named_piece l.name (l.text ++ LF ∷ l.rest) (drop start content) l.name_bytes l.reads)
 
-pub some_below : (content : List ℕ) (k start end : ℕ) → There content k start end → 1 ≤ end
-some_below content k start end l = omega (arith, l.long, written-length l.name l.text)
-
-same_parts : (a b c d x y z : ℕ) → b ≡ x → c ≡ y → d ≡ z → says 0 (a ∷ b ∷ c ∷ d ∷ []) ≡ says 0 (a ∷ x ∷ y ∷ z ∷ [])
+same_parts : (a b c d x y z : ℕ) → b ≡ x → c ≡ y → d ≡ z → a ∷ b ∷ c ∷ d ∷ [] ≡ a ∷ x ∷ y ∷ z ∷ []
 same_parts a b c d x y z i j l = cc
 
 pub line_parts : (content : List ℕ) (k start end q : ℕ) → There content k start end → q ≡ start + length (run name_byte (drop start content))
-    → says 0 (start ∷ q ∷ (q + 1) ∷ (end - 1) ∷ []) ≡ says 0 (line_in k (commit content))
+    → start ∷ q ∷ (q + 1) ∷ (end - 1) ∷ [] ≡ line_in k (commit content)
 line_parts content k start end q l e =
     let i : q ≡ start + length l.name = name_long content k start end q l e in
     same_parts start q (q + 1) (end - 1) (start + length l.name) (suc (start + length l.name)) (suc (start + length l.name) + length l.text) i
     (omega (arith, i)) (omega (arith, l.long, written-length l.name l.text))
-    ∙ ap (says 0) (sym l.values)
+    ∙ sym l.values
 
-pub no_line : (content : List ℕ) (k lines start : ℕ) (line : Part) → GoodHeader content k lines line start → lines ≤ k → line_in k (commit content) ≡ []
-no_line content k lines start line g h = line_end content g.header g.message k g.good (omega (arith, g.count))
+pub no_line : (content : List ℕ) (k : ℕ) (w : Header) → GoodHeader content k w → w.lines ≤ k → line_in k (commit content) ≡ []
+no_line content k w g h = line_end content g.header g.message k g.good (omega (arith, g.count))
 
 -- ---- the answers
 
-pub good_answer : (content : List ℕ) (k lines start : ℕ) (line : Part) (answer : Said) → GoodHeader content k lines line start → length content ≤ limit
-    → answer ≡ behind_header content answer
-good_answer content k lines start line answer g h = rw (le-ltb limit (length content) h, commit_good content g.header g.message g.good)
+fits : (content : List ℕ) (u : Unit {0}) → limited content ≡ Ok u → over_limit content ≡ false
+fits content u e = by (over_limit content) e
+  where
+    by : (b : Bool) → if◌then◌else◌ {A = Result (Unit {0}) TooLong} b (Err (record {})) (Ok tt) ≡ Ok u → b ≡ false
+    by true e = absurd cc
+    by false e = refl
 
-pub bad_answer : (content : List ℕ) (number : ℕ) (answer : Said) → commit content ≡ refused number → length content ≤ limit
-    → says 13 (number ∷ []) ≡ behind_header content answer
-bad_answer content number answer e h = rw (le-ltb limit (length content) h, e)
+pub good_answer : (content : List ℕ) (k : ℕ) (w : Header) (answer : Said) {u : Unit {0}} → GoodHeader content k w → limited content ≡ Ok u
+    → answer ≡ behind_header content answer
+good_answer content k w answer {u = u} g h = rw (fits content u h, commit_good content g.header g.message g.good)
 
 same_two : (a b x y : ℕ) → a ≡ x → b ≡ y → says 0 (a ∷ b ∷ []) ≡ says 0 (x ∷ y ∷ [])
 same_two a b x y i j = cc
 
-pub message_parts : (content : List ℕ) (k lines start : ℕ) (line : Part) → GoodHeader content k lines line start
-    → says 0 (start ∷ length content ∷ []) ≡ says 0 (message_in (commit content))
-message_parts content k lines start line g =
-    same_two start (length content) (message_start g.header) (message_start g.header + length g.message) g.behind (message_length content g.header g.message g.good)
+pub message_parts : (content : List ℕ) (k : ℕ) (w : Header) → GoodHeader content k w
+    → says 0 (w.message ∷ length content ∷ []) ≡ says 0 (message_in (commit content))
+message_parts content k w g =
+    same_two w.message (length content) (message_start g.header) (message_start g.header + length g.message) g.behind (message_length content g.header g.message g.good)
     ∙ ap (says 0) (sym (ap message_in (commit_good content g.header g.message g.good)))

@@ -1,8 +1,8 @@
 -- Blank lines at a body's end: a body may be cut where a line of its rest ends, and blank lines below the cut have an empty tree and no
 -- ending. Assumes nothing.
+use Rattle.std.specs.Prelude.{None}
 use mathlib.Core.Bool.{Bool, true, false, false≢true, ◌&&◌}
 use mathlib.Core.List.{List, [], ◌∷◌, ◌++◌, append-nil}
-use mathlib.Core.Option.{none}
 use mathlib.Core.Path.{◌≡◌, refl, sym, ◌∙◌}
 use Prim.Native.Nat.{ℕ, ◌+◌, ◌-◌, ◌≤◌}
 use native.Mathlib.Omega.{arith}
@@ -38,14 +38,14 @@ lines_tree : (ls : List Line) → all blank_byte (join ls) ≡ true → parse ls
 lines_tree [] e = refl
 lines_tree (l ∷ ls) e = let (one, more) = first_blank l ls e in rw (blank-all l ∙ one, lines_tree ls more)
 
-lines_none : (ls : List Line) → all blank_byte (join ls) ≡ true → last_ending ls ≡ none
+lines_none : (ls : List Line) → all blank_byte (join ls) ≡ true → last_ending ls ≡ None
 lines_none [] e = refl
 lines_none (l ∷ ls) e = let (one, more) = first_blank l ls e in rw (lines_none ls more, blank-all l ∙ one)
 
 pub blank_tree : (s : List ℕ) → all blank_byte s ≡ true → parse (lines s) ≡ empty (lines s)
 blank_tree s e = lines_tree (lines s) (rw (join-lines s) e)
 
-pub none_blank : (s : List ℕ) → all blank_byte s ≡ true → last_ending (lines s) ≡ none
+pub none_blank : (s : List ℕ) → all blank_byte s ≡ true → last_ending (lines s) ≡ None
 none_blank s e = lines_none (lines s) (rw (join-lines s) e)
 
 -- ---- blank from a line's end on

@@ -1,8 +1,7 @@
 -- The last non-blank line holds the last byte that is not blank, and where the line starts does not change how it ended. Assumes nothing.
-use Rattle.std.specs.Prelude.{if◌then◌else◌}
+use Rattle.std.specs.Prelude.{Option, None, Some, if◌then◌else◌}
 use mathlib.Core.Bool.{Bool, true, false, false≢true, and-true, not}
 use mathlib.Core.List.{List, [], ◌∷◌}
-use mathlib.Core.Option.{Option, none, some}
 use mathlib.Core.Path.{◌≡◌, refl, sym, ap, ◌∙◌}
 use Prim.Native.Nat.{ℕ, zero, suc, ◌+◌, ◌-◌, ◌≤◌, ◌<◌}
 use native.Mathlib.Omega.{arith}
@@ -26,8 +25,8 @@ use Rattle.paragraph.proofs.Upward.{part_is}
 solid_is : (l : Line) (b : Bool) → all blank_byte l ≡ b → solid l ≡ not b
 solid_is l b e = ap not (blank-all l ∙ e)
 
-none≢some : {e : Ending} → some e ≡ none → ⊥
-none≢some {e} q = let z : ◌≡◌ {A = ℕ} 0 1 = cc in absurd (omega arith)
+None≢Some : {e : Ending} → Some e ≡ None → ⊥
+None≢Some {e} q = let z : ◌≡◌ {A = ℕ} 0 1 = cc in absurd (omega arith)
 
 -- ---- a byte in front
 
@@ -43,25 +42,25 @@ ending_front c (d ∷ []) e = by (eqb d LF) refl
 ending_front c (d ∷ g ∷ m) e = refl
 
 -- where there is a last non-blank line, it ended so whatever stands in front
-front : (c : ℕ) (s : List ℕ) (e : Ending) → last_ending (lines s) ≡ some e → last_ending (lines (c ∷ s)) ≡ some e
+front : (c : ℕ) (s : List ℕ) (e : Ending) → last_ending (lines s) ≡ Some e → last_ending (lines (c ∷ s)) ≡ Some e
 front c s e = by (eqb c LF) (lines s)
   where
-    joined : (l : Line) (o : Option Ending) → ending_under l o ≡ some e → ending_under (c ∷ l) o ≡ some e
-    joined l (some x) h = h
-    joined l none h = test (all blank_byte l) (blank_byte c) refl refl h
+    joined : (l : Line) (o : Option Ending) → ending_under l o ≡ Some e → ending_under (c ∷ l) o ≡ Some e
+    joined l (Some x) h = h
+    joined l None h = test (all blank_byte l) (blank_byte c) refl refl h
       where
-        test : (b d : Bool) → all blank_byte l ≡ b → blank_byte c ≡ d → (if solid l then some (ending l) else none) ≡ some e
-            → (if solid (c ∷ l) then some (ending (c ∷ l)) else none) ≡ some e
-        test true d q r h = absurd (none≢some (sym (rw (solid_is l true q) at h)))
+        test : (b d : Bool) → all blank_byte l ≡ b → blank_byte c ≡ d → (if solid l then Some (ending l) else None) ≡ Some e
+            → (if solid (c ∷ l) then Some (ending (c ∷ l)) else None) ≡ Some e
+        test true d q r h = absurd (None≢Some (sym (rw (solid_is l true q) at h)))
         test false true q r h = rw (solid_is (c ∷ l) false (rw (r, q)), ending_front c l q) (rw (solid_is l false q) at h)
         test false false q r h = rw (solid_is (c ∷ l) false (rw r), ending_front c l q) (rw (solid_is l false q) at h)
 
-    by : (b : Bool) (ls : List Line) → last_ending ls ≡ some e → last_ending (before b c ls) ≡ some e
+    by : (b : Bool) (ls : List Line) → last_ending ls ≡ Some e → last_ending (before b c ls) ≡ Some e
     by true ls h = rw h
-    by false [] h = absurd (none≢some (sym h))
+    by false [] h = absurd (None≢Some (sym h))
     by false (l ∷ ls) h = joined l (last_ending ls) h
 
-dropped : (k : ℕ) (s : List ℕ) (e : Ending) → last_ending (lines (drop k s)) ≡ some e → last_ending (lines s) ≡ some e
+dropped : (k : ℕ) (s : List ℕ) (e : Ending) → last_ending (lines (drop k s)) ≡ Some e → last_ending (lines s) ≡ Some e
 dropped zero s e h = h
 dropped (suc k) [] e h = h
 dropped (suc k) (c ∷ s) e h = front c s e (dropped k s e h)
@@ -102,6 +101,6 @@ ends_there body n k s z e =
     let blank : all blank_byte (drop (n - 1 + k) body) ≡ true = rw below (drop_blank (k - 1) (drop n body) s.1) in
     let behind : all blank_byte (drop (n - 1 + k - (n - 1)) rest) ≡ true = ap (λ (m : ℕ). all blank_byte (drop m rest)) size ∙ ap (all blank_byte) (drop-drop k (n - 1) body) ∙ blank in
     let line = solid_is (take (n - 1 + k - (n - 1)) rest) false (front_solid (n - 1 + k - (n - 1)) rest behind (s.2 z)) in
-    let last : last_ending (lines rest) ≡ some (ending (take (n - 1 + k - (n - 1)) rest)) =
+    let last : last_ending (lines rest) ≡ Some (ending (take (n - 1 + k - (n - 1)) rest)) =
     ap last_ending (line_then body (n - 1) k h e) ∙ ap (ending_under (take (n - 1 + k - (n - 1)) rest)) (none_blank (drop (n - 1 + k) body) blank) ∙ rw line in
     ap or_none (dropped (n - 1) body (ending (take (n - 1 + k - (n - 1)) rest)) last)

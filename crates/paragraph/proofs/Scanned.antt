@@ -1,7 +1,7 @@
 -- The backward scan: its counts are those of the tree of the lines that it has seen (counted-put), they are small enough to be
 -- summed and tripled (counted_within), a blank line above the paragraph settles them (closed), and they give the block start
 -- (start_decided). Assumes nothing.
-use Rattle.std.specs.Prelude.{if◌then◌else◌}
+use Rattle.std.specs.Prelude.{Option, is_some, if◌then◌else◌}
 use mathlib.Core.Bool.{Bool, true, false, true≢false, false≢true}
 use mathlib.Core.List.{List, [], ◌∷◌, ◌++◌, append_assoc, append-nil, drop_last}
 use mathlib.Core.Logic.{inl, inr}
@@ -17,35 +17,27 @@ use Rattle.rules.specs.Bytes.{blank_byte}
 use Rattle.rules.specs.Lines.{Line, lines, text, blank, indented, folds}
 use Rattle.rules.specs.Lists.{All, filled, join, starts}
 use Rattle.rules.specs.Paragraph.{cherry_picked, signed_off, recognised, leads, Group, grouped, grouped_lines, lead_count, other_count, any_recognised}
-use Rattle.rules.specs.Paragraph.{accepts, accepted, Above, nothing, at_top, under, above_lines, solid, Body, empty, ended, body_lines}
+use Rattle.rules.specs.Paragraph.{accepted, Above, nothing, at_top, under, above_lines, solid, Body, empty, ended, body_lines}
 use Rattle.rules.specs.Paragraph.{block_at, start_of, onto, put, parse, block_start}
-use Rattle.rules.specs.Trailer.{trailer_line, token_in, gap_in}
+use Rattle.rules.specs.Trailer.{trailer_line, token_in}
 use Rattle.rules.proofs.Above.{settled}
 use Rattle.rules.proofs.Lines.{filled-lines, join-lines, lines_prefix}
 use Rattle.rules.proofs.Lists.{and_right, or_cases, or_left, filled_some, is_true, is_false, join-append}
 use Rattle.rules.proofs.Paragraph.{leads_not_folds, parse-lines}
 use Rattle.rules.proofs.Trailer.{indented_no_trailer, trailer_line_lem}
 use Rattle.trailer.specs.Line.{parsed}
+use Rattle.trailer.proofs.Parsed.{parsed_told}
 use Rattle.trailer.specs.declared.line.TrailerLine.{TrailerLine}
 use Rattle.paragraph.specs.declared.Scan.{Scan}
 use Rattle.paragraph.specs.declared.Paragraph.{Paragraph}
+pub use Rattle.paragraph.specs.Scan.{is_block}
 use Rattle.paragraph.specs.Scan.{counts, counted, scanned, start_in, paragraph, last_paragraph, text_end, end_above}
 
 -- ---- a trailer line
 
-abbrev pub is_at : TrailerLine → Bool
-is_at (TrailerLine.At n at) = true
-is_at TrailerLine.NoTrailer = false
-
 -- what an answer of `parse_trailer_line` tells of the line
-pub told : (l : Line) (r q : TrailerLine) → r ≡ parsed l → r ≡ q → trailer_line l ≡ is_at q
-unfolding parsed
-told l r q e f = by (trailer_line l) ∙ ap is_at (sym e ∙ f)
-  where
-    by : (b : Bool)
-        → b ≡ is_at (if b then TrailerLine.At (length (token_in l)) (length (token_in l) + length (gap_in l) + 1) else TrailerLine.NoTrailer)
-    by true = refl
-    by false = refl
+pub told : (l : Line) (r q : Option TrailerLine) → r ≡ parsed l → r ≡ q → trailer_line l ≡ is_some q
+told l r q e f = sym (parsed_told l) ∙ ap is_some (sym e ∙ f)
 
 -- ---- an indented line is no trailer line, and none that begins with `S` or `(`
 
@@ -209,10 +201,6 @@ above_end : (a : Above) → end_above (above_lines a) ≡ block_at a
 above_end nothing = refl
 above_end (at_top b) = refl
 above_end (under ls l b) = end_above_lem ls l b
-
--- whether a paragraph with these counts is a block
-abbrev pub is_block : Scan → Bool
-is_block s = accepts s.trailer_lines (s.non_trailer_lines + s.possible_continuation_lines) s.recognized_prefix
 
 tree_decides : (body : List ℕ) (t : Body) → body_lines t ≡ lines body
     → start_of t (length body) ≡ (if is_block (counted t) then end_above (lines (take (start_in t) body)) else length body)

@@ -3,7 +3,7 @@ use Rattle.std.specs.Prelude.{Bool, true, false, ◌||◌, ℕ, ◌+◌, length,
 use mathlib.Core.List.{List, [], ◌∷◌, drop_last}
 use Rattle.rules.specs.Lines.{Line, text, indented}
 use Rattle.rules.specs.Lists.{join}
-use Rattle.rules.specs.Paragraph.{Body, empty, ended, above_lines, grouped, recognised, leads, lead_count, other_count, any_recognised}
+use Rattle.rules.specs.Paragraph.{accepts, Body, empty, ended, above_lines, grouped, recognised, leads, lead_count, other_count, any_recognised}
 use Rattle.paragraph.specs.declared.Scan.{Scan}
 use Rattle.paragraph.specs.declared.Paragraph.{Paragraph}
 
@@ -30,6 +30,10 @@ scanned l s =
     else if indented l then
     counts true s.recognized_prefix s.trailer_lines s.non_trailer_lines (s.possible_continuation_lines + 1)
     else counts true s.recognized_prefix s.trailer_lines (s.non_trailer_lines + (1 + s.possible_continuation_lines)) 0
+
+-- whether a paragraph with these counts is a block: the indented lines at its top count as others
+abbrev pub is_block : Scan → Bool
+is_block s = accepts s.trailer_lines (s.non_trailer_lines + s.possible_continuation_lines) s.recognized_prefix
 
 -- where the last paragraph starts, and its counts; where there is none, 0 and no counts
 abbrev pub start_in : Body → ℕ

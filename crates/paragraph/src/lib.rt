@@ -5,7 +5,7 @@ ghost use Rattle.std.specs.Prelude.{◌≡◌, ◌+◌, ◌*◌, ◌^◌, ◌<�
 ghost use Rattle.rules.specs.Lines.{lines};
 ghost use Rattle.rules.specs.Lists.{starts};
 ghost use Rattle.rules.specs.Paragraph.{accepts, block_start, cherry_picked, ending_below, parse, recognised, signed_off};
-ghost use Rattle.paragraph.specs.Scan.{end_above, last_paragraph, scanned};
+ghost use Rattle.paragraph.specs.Scan.{end_above, is_block, last_paragraph, scanned};
 ghost use Rattle.paragraph.specs.Solid.{BlankFrom, SolidLen};
 
 use rules::Ending;
@@ -14,10 +14,10 @@ use text::line::{
     before_blanks, is_ascii_whitespace, is_blank_line, is_indented, line_len, line_start,
     trim_line_ending,
 };
-use trailer::line::{TrailerLine, parse_trailer_line};
+use trailer::line::parse_trailer_line;
 
 // What is counted of the last paragraph, from the body's end upwards.
-#[derive(Drop)]
+#[derive(Clone, Copy, Default)]
 pub struct Scan {
     pub saw_non_blank_line: bool,
     pub recognized_prefix: bool,
@@ -26,8 +26,49 @@ pub struct Scan {
     pub possible_continuation_lines: usize,
 }
 
+impl Scan {
+    // What one more line above, which is not blank, adds. An indented line is neither recognised nor a trailer line: that is asked first,
+    // unlike in the original, since its first byte shows it.
+    fn add(&mut self, line: &[u8])
+        requires { self.old.trailer_lines + self.old.non_trailer_lines + self.old.possible_continuation_lines < 2 ^ 63 }
+        ensures { self.new ≡ scanned line.now self.old }
+    {
+        self.saw_non_blank_line = true;
+        if is_indented(line) {
+            self.possible_continuation_lines += 1;
+            return;
+        }
+        if is_recognized_prefix(line) {
+            self.trailer_lines += 1;
+            self.possible_continuation_lines = 0;
+            self.recognized_prefix = true;
+            return;
+        }
+        if parse_trailer_line(line).is_some() {
+            self.trailer_lines += 1;
+            self.possible_continuation_lines = 0;
+            return;
+        }
+        self.non_trailer_lines += 1 + self.possible_continuation_lines;
+        self.possible_continuation_lines = 0;
+    }
+
+    // Whether the paragraph so counted is a trailer block. Above the indented lines at its top stands no other of its lines: they count as
+    // lines that are no trailers.
+    pub fn is_block(self) -> bool
+        requires { (3 * self.trailer_lines < 2 ^ 64) × (self.non_trailer_lines + self.possible_continuation_lines < 2 ^ 64) }
+        ensures { result ≡ is_block self }
+    {
+        accepts_as_trailer_block(
+            self.recognized_prefix,
+            self.trailer_lines,
+            self.non_trailer_lines + self.possible_continuation_lines,
+        )
+    }
+}
+
 // The last paragraph: where it starts, and its counts.
-#[derive(Drop)]
+#[derive(Clone, Copy)]
 pub struct Paragraph {
     pub start: usize,
     pub scan: Scan,
@@ -65,47 +106,13 @@ pub fn is_recognized_prefix(line: &[u8]) -> bool
     is_signed_off(line) || is_cherry_picked(line)
 }
 
-// What one more line above, which is not blank, adds. An indented line is neither recognised nor a trailer line: that is asked first,
-// unlike in the original, since its first byte tells.
-fn scan_line(mut scan: Scan, line: &[u8]) -> Scan
-    requires { scan.trailer_lines + scan.non_trailer_lines + scan.possible_continuation_lines < 2 ^ 63 }
-    ensures { result ≡ scanned line.now scan }
-{
-    scan.saw_non_blank_line = true;
-    if is_indented(line) {
-        scan.possible_continuation_lines += 1;
-        return scan;
-    }
-    if is_recognized_prefix(line) {
-        scan.trailer_lines += 1;
-        scan.possible_continuation_lines = 0;
-        scan.recognized_prefix = true;
-        return scan;
-    }
-    if let TrailerLine::At {
-        token_end: _,
-        value_start: _,
-    } = parse_trailer_line(line)
-    {
-        scan.trailer_lines += 1;
-        scan.possible_continuation_lines = 0;
-        return scan;
-    }
-    scan.non_trailer_lines += 1 + scan.possible_continuation_lines;
-    scan.possible_continuation_lines = 0;
-    scan
-}
-
 // Where the scan begins: at the body's end, or above the blank lines that a body ends with, which count for nothing. Most bodies have none, which
 // the last byte but one tells.
 fn scan_end(body: &[u8]) -> usize
     ensures { BlankFrom body.now result }
 {
     let end = body.len();
-    if end < 2 {
-        return end;
-    }
-    if !is_ascii_whitespace(body[end - 2]) {
+    if end < 2 || !is_ascii_whitespace(body[end - 2]) {
         return end;
     }
     let solid = solid_len(body);
@@ -119,13 +126,7 @@ fn scan_end(body: &[u8]) -> usize
 pub fn last_paragraph(body: &[u8]) -> Paragraph
     ensures { result ≡ last_paragraph (parse (lines body.now)) }
 {
-    let mut scan = Scan {
-        saw_non_blank_line: false,
-        recognized_prefix: false,
-        trailer_lines: 0,
-        non_trailer_lines: 0,
-        possible_continuation_lines: 0,
-    };
+    let mut scan = Scan::default();
     let mut end = scan_end(body);
     while end > 0 {
         let start = line_start(&body[..end], end);
@@ -135,7 +136,7 @@ pub fn last_paragraph(body: &[u8]) -> Paragraph
                 return Paragraph { start: end, scan };
             }
         } else {
-            scan = scan_line(scan, line);
+            scan.add(line);
         }
         end = start;
     }
@@ -171,13 +172,7 @@ pub fn trailer_block_start(body: &[u8]) -> usize
     ensures { result ≡ block_start body.now }
 {
     let paragraph = last_paragraph(body);
-    let scan = paragraph.scan;
-    let non_trailer_lines = scan.non_trailer_lines + scan.possible_continuation_lines;
-    if !accepts_as_trailer_block(
-        scan.recognized_prefix,
-        scan.trailer_lines,
-        non_trailer_lines,
-    ) {
+    if !paragraph.scan.is_block() {
         return body.len();
     }
     end_above(body, paragraph.start)

@@ -1,10 +1,9 @@
 -- What the functions answer: how far the reader of the mailbox has come behind a piece, and in which state.
-use Rattle.std.specs.Prelude.{Bool, false, cond, ◌||◌, List, [], ◌∷◌, ◌≡◌, ℕ, suc, ◌+◌, ◌≤◌, T, eqb, length, drop, get_or}
+use Rattle.std.specs.Prelude.{Bool, false, cond, ◌||◌, List, ◌∷◌, ◌≡◌, ℕ, suc, ◌+◌, ◌≤◌, T, eqb, length, drop, get_or, Ok, IfOk}
 use Rattle.rules.specs.Lists.{Stops, run}
 use Rattle.mailbox.specs.Grammar.{atext}
 use Rattle.mailbox.specs.Reader.{Half, home, names, some, quote, quote_taken, text, dotted}
-use Rattle.comment.specs.Ends.{Watch, until, onward, end}
-use Rattle.comment.specs.declared.End.{End}
+use Rattle.comment.specs.Ends.{End, place, Watch, until, onward}
 
 -- "An atom runs as far as it can."
 abbrev pub atom_end : List ℕ → ℕ → ℕ
@@ -23,17 +22,17 @@ PassesDots w half from =
 -- over a dot-atom, as far as it can run
 pub record DotEnd (s : List ℕ) (at : ℕ) (e : End) : Type 0 where
   pub reads : (w : Watch) (half : Half) → PassesDots w half at → until w at (dotted half at) (drop at s) ≡ onward w s (text half at) e
-  pub stops : e.number ≡ 0 → Stops dot_byte (drop e.at s)
-  pub later : at ≤ e.at
-  pub within : e.at ≤ length s
+  pub stops : IfOk e (λ k. Stops dot_byte (drop k s))
+  pub later : at ≤ place e
+  pub within : place e ≤ length s
 
 -- over the quoted string that the quote at `at` opens
 pub record QuoteEnd (s : List ℕ) (at : ℕ) (e : End) : Type 0 where
   pub reads : (w : Watch) (from : ℕ) → ((t : List ℕ) → (w.over (quote from) t ≡ false) × (w.over (quote_taken from) t ≡ false))
-      → until w (suc at) (quote from) (drop (suc at) s) ≡ onward w s (home (names (some from e.at))) e
-  pub later : suc at ≤ e.at
-  pub within : e.at ≤ length s
+      → until w (suc at) (quote from) (drop (suc at) s) ≡ onward w s (home (names (some from (place e)))) e
+  pub later : suc at ≤ place e
+  pub within : place e ≤ length s
 
 -- over a word, "atoms or quoted strings"; the same place where there is none
 abbrev pub WordEnd : List ℕ → ℕ → End → Type 0
-WordEnd s at e = cond (eqb (get_or s at 0) 34) (QuoteEnd s at e) (e ≡ end 0 (atom_end s at))
+WordEnd s at e = cond (eqb (get_or s at 0) 34) (QuoteEnd s at e) (e ≡ Ok (atom_end s at))

@@ -1,5 +1,5 @@
 -- Counting, one trailer at a time, and what a record of the walk asks for in the buffer. Assumes nothing.
-use Rattle.std.specs.Prelude.{if◌then◌else◌}
+use Rattle.std.specs.Prelude.{Some, if◌then◌else◌}
 use mathlib.Core.Bool.{Bool, true, false}
 use mathlib.Core.List.{List, [], ◌∷◌}
 use mathlib.Core.Path.{◌≡◌, refl, ap, ◌∙◌}
@@ -15,27 +15,17 @@ use Rattle.rules.specs.Bytes.{LF}
 use Rattle.rules.specs.Lines.{Line, before, folds, lines}
 use Rattle.rules.specs.Lists.{run}
 use Rattle.rules.specs.Number.{line_feeds}
-use Rattle.rules.specs.Record.{part, places_of, value_of, written_of}
+use Rattle.rules.specs.Record.{part, value_of, written_of}
 use Rattle.rules.specs.Trailer.{Trailer, trailer, end_of, is_of, place_of, raw_value, trailer_line, unfolded, value_is_written, walk, walk_from}
 use Rattle.rules.specs.White.{trim, trim_at}
-use Rattle.rules.specs.declared.Cursor.{Cursor}
 use Rattle.rules.specs.declared.Kind.{Kind}
 use Rattle.rules.specs.declared.Places.{Places}
 use Rattle.rules.specs.declared.Value.{Value}
 use Rattle.trailer.proofs.Steps.{First, first_is}
 use Rattle.trailer.specs.Walk.{next_of}
-use Rattle.trailer.specs.declared.walk.NextTrailer.{NextTrailer}
 use Rattle.listing.proofs.Turn.{all_kept}
 use Rattle.listing.specs.Listing.{values_of}
-use Rattle.listing.specs.Turns.{standing}
-use Rattle.listing.specs.declared.Counts.{Counts}
 use Rattle.planning.specs.Planning.{from}
-
--- where a listing stands that has found the next trailer
-pub found_standing : (end : ℕ) (c : Cursor) (done : Counts) (ts : List Trailer) {at : Places} → next_of ts ≡ NextTrailer.Trailer at
-    → record { end = end; cursor = c; more = 1; ahead = at; done = done } ≡ standing end c done ts
-found_standing end c done [] q = let z : ◌≡◌ {A = ℕ} 0 1 = cc in absurd (omega arith)
-found_standing end c done (t ∷ ts) {at} q = let e : at ≡ places_of t = cc in rw e
 
 -- no more is written than the raw value has
 written_short : (raw : List ℕ) → length (written_of raw) ≤ length raw
@@ -66,7 +56,7 @@ pub record Found (s : List ℕ) (at : ℕ) (p : Places) : Type 0 where
       ≡ length (written_of (take (p.end - p.value_start) (drop p.value_start s))) + length (values_of (walk_from s p.end))
   pub few : length (written_of (take (p.end - p.value_start) (drop p.value_start s))) ≤ p.end - p.value_start
 
-module _ (s : List ℕ) (at : ℕ) {p : Places} (q : next_of (walk_from s at) ≡ NextTrailer.Trailer p) where
+module _ (s : List ℕ) (at : ℕ) {p : Places} (q : next_of (walk_from s at) ≡ Some p) where
   first : First (walk_from s at) p
   first = first_is (walk_from s at) q
 

@@ -1,5 +1,5 @@
--- Laws of counting, of where a listing begins, and of a turn.
+-- Laws of counting, of where a listing begins, of a turn, and of a table that is filled.
 pub mod Counted
 pub mod Judged
 pub mod Stepping
-pub mod Refused
+pub mod Filled

@@ -1,5 +1,5 @@
 -- What is listed of an input: the answer, and what the table and the buffer hold afterwards.
-use Rattle.std.specs.Prelude.{List, ◌≡◌, ℕ, length}
+use Rattle.std.specs.Prelude.{List, ◌≡◌, ℕ, length, Result}
 use Rattle.rules.specs.Answers.{Said, afterwards}
 use Rattle.rules.specs.declared.TrailerRef.{TrailerRef}
 use Rattle.divider.specs.Readings.{in_reading, read}
@@ -7,7 +7,8 @@ use Rattle.foot.specs.Foot.{foot_answer, foot_records, foot_values}
 use Rattle.message.specs.Message.{walk_start}
 use Rattle.listing.specs.Answers.{list_answer, listing_says}
 use Rattle.listing.specs.Listing.{records_from, values_from}
-use Rattle.listing.specs.declared.Listing.{Listing}
+use Rattle.listing.specs.declared.Listed.{Listed}
+use Rattle.listing.specs.declared.ListingError.{ListingError}
 use Rattle.planning.specs.declared.Scope.{Scope}
 
 -- of a whole message: from where the walk of its trailers begins
@@ -40,7 +41,7 @@ abbrev pub scope_buffer : List ℕ → Scope → ℕ → List ℕ → List ℕ
 scope_buffer input w rooms out = afterwards (scope_answer input w rooms (length out)) (scope_values input w) out
 
 -- all of it
-pub record Lists (input : List ℕ) (w : Scope) (table : List TrailerRef) (out : List ℕ) (r : Listing) (table-left : List TrailerRef) (out-left : List ℕ) : Type 0 where
+pub record Lists (input : List ℕ) (w : Scope) (table : List TrailerRef) (out : List ℕ) (r : Result Listed ListingError) (table-left : List TrailerRef) (out-left : List ℕ) : Type 0 where
   pub answers : listing_says r ≡ scope_answer input w (length table) (length out)
   pub table_holds : table-left ≡ scope_table input w (length out) table
   pub buffer_holds : out-left ≡ scope_buffer input w (length table) out

@@ -12,38 +12,36 @@ ghost use Rattle.reading.specs.Reading.{summary_with};
 use divider::{Reading, end_in};
 use message::decode::message_title_and_body;
 use message::{message_summary, message_trailers};
-use rules::{LIMIT, Refusal, TitleAndBody, ValueFound, WalkFound};
+use rules::{Cursor, Refusal, TitleAndBody, Value, within_limit};
 
 // Where the title ends and where the body starts.
-pub fn message_title_and_body_in(message: &[u8], reading: Reading) -> TitleAndBody
+pub fn message_title_and_body_in(message: &[u8], reading: Reading) -> Result<TitleAndBody, Refusal>
     ensures { title_says result ≡ in_reading reading title_answer message.now }
 {
-    if message.len() > LIMIT {
-        return TitleAndBody::Refused(Refusal::TooLong);
-    }
+    within_limit(message)?;
     let end = end_in(message, reading);
     message_title_and_body(&message[..end])
 }
 
 // The summary of the message.
-pub fn message_summary_in(message: &[u8], reading: Reading, out: &mut [u8]) -> ValueFound
+pub fn message_summary_in(
+    message: &[u8],
+    reading: Reading,
+    out: &mut [u8],
+) -> Result<Value, Refusal>
     ensures result_value { value_found_says result ≡ in_reading reading (summary_with (length out.old)) message.now }
     ensures out_after { out.new ≡ left_in reading summary_buffer message.now out.old }
 {
-    if message.len() > LIMIT {
-        return ValueFound::Refused(Refusal::TooLong);
-    }
+    within_limit(message)?;
     let end = end_in(message, reading);
     message_summary(&message[..end], out)
 }
 
 // Where the walk of the message's trailers begins: at its end in that reading where it has none.
-pub fn message_trailers_in(message: &[u8], reading: Reading) -> WalkFound
+pub fn message_trailers_in(message: &[u8], reading: Reading) -> Result<Cursor, Refusal>
     ensures { walk_found_says result ≡ in_reading reading walk_answer message.now }
 {
-    if message.len() > LIMIT {
-        return WalkFound::Refused(Refusal::TooLong);
-    }
+    within_limit(message)?;
     let end = end_in(message, reading);
     message_trailers(&message[..end])
 }

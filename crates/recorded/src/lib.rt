@@ -1,136 +1,114 @@
-// The list of recorded answers: numbers and bytes at a place, read, or held to what is expected there. README.md of crates/replay
-// says how it is laid out.
+// The list of recorded answers: numbers and bytes, read one after another, or held to what is expected. README.md of crates/replay says how it
+// is laid out.
 #![tactic(auto)]
 
-ghost use Rattle.std.specs.Prelude.{◌≤◌, ◌<◌, length};
+ghost use Rattle.std.specs.Prelude.{List, [], ℕ, ◌≡◌, ◌↔◌, IsSome, IsTrue, Option, Some, option_and_then, option_map};
+ghost use Rattle.recorded.specs.Reading.{after, byte, bytes, got, number, two_bytes};
 
-use text::fixed::starts_with;
+use std::marker::Model;
 
-// Where the list is read on; off, once it did not say what was expected, or ended too early.
+// What is left of the list; nothing, once it did not say what was expected, or ended too early.
 #[derive(Drop)]
-pub enum Place {
-    At(usize),
-    Off,
+pub struct Recorded<'a> {
+    left: Option<&'a [u8]>,
 }
 
-// A number of the list, and the place behind it.
-#[derive(Drop)]
-pub struct Number {
-    pub value: usize,
-    pub next: Place,
+// A list is what is left of it.
+impl<'a> Model for Recorded<'a> {
+    ghost Value = { Option (List ℕ) };
+
+    ghost view = { λ r. option_map (λ left. left.now) r.left };
 }
 
-// Bytes of the list, from `start` up to `end`, and the place behind them.
-#[derive(Drop)]
-pub struct Bytes {
-    pub start: usize,
-    pub end: usize,
-    pub next: Place,
-}
+impl<'a> Recorded<'a> {
+    pub fn new(list: &'a [u8]) -> Recorded<'a>
+        ensures { result ≡ Some list.now }
+    {
+        Recorded { left: Some(list) }
+    }
 
-fn wide(byte: u8) -> usize
-    ensures { result < 256 }
-{
-    byte as usize
-}
-
-fn no_number() -> Number {
-    Number {
-        value: 0,
-        next: Place::Off,
-    }
-}
-
-// The number that two bytes are, the lower first.
-pub fn two_bytes_at(list: &[u8], place: Place) -> Number {
-    let Place::At(at) = place else {
-        return no_number();
-    };
-    if list.len() < 2 {
-        return no_number();
-    }
-    if list.len() - 2 < at {
-        return no_number();
-    }
-    Number {
-        value: wide(list[at]) + 256 * wide(list[at + 1]),
-        next: Place::At(at + 2),
-    }
-}
-
-// The number at a place: one byte, or, behind a byte 255, two.
-pub fn number_at(list: &[u8], place: Place) -> Number {
-    let Place::At(at) = place else {
-        return no_number();
-    };
-    if list.len() <= at {
-        return no_number();
-    }
-    let value = wide(list[at]);
-    let next = Place::At(at + 1);
-    if value == 255 {
-        return two_bytes_at(list, next);
-    }
-    Number { value, next }
-}
-
-fn no_bytes() -> Bytes
-    ensures { (result.start ≤ result.end) × (result.end ≤ 0) }
-{
-    Bytes {
-        start: 0,
-        end: 0,
-        next: Place::Off,
-    }
-}
-
-// The bytes at a place: their length stands in front of them.
-pub fn bytes_at(list: &[u8], place: Place) -> Bytes
-    ensures { (result.start ≤ result.end) × (result.end ≤ length list.now) }
-{
-    let length = number_at(list, place);
-    let next = length.next;
-    let Place::At(start) = next else {
-        return no_bytes();
-    };
-    if list.len() < start {
-        return no_bytes();
-    }
-    if list.len() - start < length.value {
-        return no_bytes();
-    }
-    let end = start + length.value;
-    Bytes {
-        start,
-        end,
-        next: Place::At(end),
-    }
-}
-
-// The place behind a number, if the list has that number.
-pub fn expect_number(list: &[u8], place: Place, number: usize) -> Place {
-    let found = number_at(list, place);
-    if found.value == number {
-        return found.next;
-    }
-    Place::Off
-}
-
-// The place behind two numbers, if the list has them.
-pub fn expect_two(list: &[u8], place: Place, first: usize, second: usize) -> Place {
-    let place = expect_number(list, place, first);
-    expect_number(list, place, second)
-}
-
-// The place behind some bytes, if the list has those bytes.
-pub fn expect_bytes(list: &[u8], place: Place, bytes: &[u8]) -> Place {
-    let found = bytes_at(list, place);
-    let start = found.start;
-    let end = found.end;
-    if end - start == bytes.len() {
-        if starts_with(&list[start..end], bytes) {
-            return found.next;
+    // Whether all of the list was read, and said what was expected.
+    pub fn is_at_end(&self) -> bool
+        ensures { IsTrue result ↔ (self.now ≡ Some []) }
+    {
+        match self.left {
+            Some(left) => left.is_empty(),
+            None => false,
         }
     }
-    Place::Off
+
+    // The next byte.
+    fn byte(&mut self) -> Option<u8>
+        ensures got { result ≡ got byte self.old }
+        ensures left { self.new ≡ after byte self.old }
+    {
+        let (first, rest) = self.left.take()?.split_first()?;
+        self.left = Some(rest);
+        Some(*first)
+    }
+
+    // The number that two bytes are, the lower first.
+    pub fn two_bytes(&mut self) -> Option<usize>
+        ensures got { result ≡ got two_bytes self.old }
+        ensures left { self.new ≡ after two_bytes self.old }
+    {
+        let low = self.byte()?;
+        let high = self.byte()?;
+        Some(usize::from(u16::from_le_bytes([low, high])))
+    }
+
+    // The next number: one byte, or, after a byte 255, two.
+    pub fn number(&mut self) -> Option<usize>
+        ensures got { result ≡ got number self.old }
+        ensures left { self.new ≡ after number self.old }
+    {
+        match self.byte()? {
+            255 => self.two_bytes(),
+            byte => Some(usize::from(byte)),
+        }
+    }
+
+    // The next bytes: their length stands in front of them.
+    pub fn bytes(&mut self) -> Option<&'a [u8]>
+        ensures got { option_map (λ b. b.now) result ≡ got bytes self.old }
+        ensures left { self.new ≡ after bytes self.old }
+    {
+        let len = self.number()?;
+        let (bytes, rest) = self.left.take()?.split_at_checked(len)?;
+        self.left = Some(rest);
+        Some(bytes)
+    }
+
+    // Passes the next number, if it is this one.
+    pub fn expect_number(&mut self, expected: usize) -> Option<()>
+        ensures passed { IsSome result ↔ (got number self.old ≡ Some expected) }
+        ensures left { self.new ≡ option_and_then (λ _. after number self.old) result }
+    {
+        if self.number()? == expected {
+            return Some(());
+        }
+        self.left = None;
+        None
+    }
+
+    // Passes the next two numbers, if they are these.
+    pub fn expect_two(&mut self, first: usize, second: usize) -> Option<()>
+        ensures passed { IsSome result ↔ ((got number self.old ≡ Some first) × (got number (after number self.old) ≡ Some second)) }
+        ensures left { self.new ≡ option_and_then (λ _. after number (after number self.old)) result }
+    {
+        self.expect_number(first)?;
+        self.expect_number(second)
+    }
+
+    // Passes the next bytes, if they are these.
+    pub fn expect_bytes(&mut self, expected: &[u8]) -> Option<()>
+        ensures passed { IsSome result ↔ (got bytes self.old ≡ Some expected.now) }
+        ensures left { self.new ≡ option_and_then (λ _. after bytes self.old) result }
+    {
+        if self.bytes()? == expected {
+            return Some(());
+        }
+        self.left = None;
+        None
+    }
 }

@@ -1,5 +1,5 @@
 -- Worked examples of document 02, K11: rows of a single table. One theorem holds of all of them (proofs/Examples, cases).
-use Rattle.std.specs.Prelude.{List, [], ◌∷◌, ◌++◌, map, ℕ, length, replicate}
+use Rattle.std.specs.Prelude.{List, [], ◌∷◌, ◌++◌, ℕ, length, replicate}
 use Prim.Native.String.{String}
 use Rattle.rules.specs.Answers.{Said, says}
 use Rattle.rules.specs.Bytes.{bytes}

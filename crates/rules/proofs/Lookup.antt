@@ -1,8 +1,7 @@
 -- The named lookup: exactly one answer belongs to a name and a walk, and it is `lookup`. Assumes nothing.
-use Rattle.std.specs.Prelude.{if◌then◌else◌}
+use Rattle.std.specs.Prelude.{Option, None, Some, if◌then◌else◌}
 use mathlib.Core.Bool.{Bool, true, false}
 use mathlib.Core.List.{List, [], ◌∷◌, ◌++◌}
-use mathlib.Core.Option.{Option, none, some}
 use mathlib.Core.Path.{◌≡◌, refl, sym, ap, ◌∙◌}
 use Prim.Native.Nat.{ℕ}
 use lib.Dec.{T}
@@ -13,14 +12,14 @@ use Rattle.rules.proofs.Lists.{is_false, is_true}
 -- ---- the last of a list
 
 abbrev latest : Trailer → Option Trailer → Trailer
-latest t none = t
-latest t (some u) = u
+latest t None = t
+latest t (Some u) = u
 
-finally-cons : (t : Trailer) (ts : List Trailer) → finally (t ∷ ts) ≡ some (latest t (finally ts))
+finally-cons : (t : Trailer) (ts : List Trailer) → finally (t ∷ ts) ≡ Some (latest t (finally ts))
 finally-cons t [] = refl
 finally-cons t (u ∷ ts) = rw (finally-cons u ts)
 
-finally_end : (ts : List Trailer) (t : Trailer) → finally (ts ++ (t ∷ [])) ≡ some t
+finally_end : (ts : List Trailer) (t : Trailer) → finally (ts ++ (t ∷ [])) ≡ Some t
 finally_end [] t = refl
 finally_end (u ∷ ts) t = rw (finally-cons u (ts ++ (t ∷ [])), finally_end ts t)
 
@@ -28,13 +27,13 @@ finally_end (u ∷ ts) t = rw (finally-cons u (ts ++ (t ∷ [])), finally_end ts
 
 module _ (name : List ℕ) where
   onto : (t : Trailer) {ts : List Trailer} {o : Option Trailer} (b : Bool) → asked name (token_of t) ≡ b → Looked name ts o
-      → Looked name (t ∷ ts) (if b then some (latest t o) else o)
+      → Looked name (t ∷ ts) (if b then Some (latest t o) else o)
   onto t true q (last before after e a l) = last (t ∷ before) after (ap (λ (us : List Trailer). t ∷ us) e) a l
   onto t {ts} true q (nowhere l) = last [] ts refl (rw q tt) l
   onto t false q (last before after e a l) = last (t ∷ before) after (ap (λ (us : List Trailer). t ∷ us) e) a l
   onto t false q (nowhere l) = nowhere (rw q tt, l)
 
-  kept_last : (b : Bool) (t : Trailer) (us : List Trailer) → finally (if b then t ∷ us else us) ≡ (if b then some (latest t (finally us)) else finally us)
+  kept_last : (b : Bool) (t : Trailer) (us : List Trailer) → finally (if b then t ∷ us else us) ≡ (if b then Some (latest t (finally us)) else finally us)
   kept_last true t us = finally-cons t us
   kept_last false t us = refl
 
@@ -68,7 +67,7 @@ pub exactly_one_lookup : (name : List ℕ) (ts : List Trailer) →
 exactly_one_lookup name ts = (lookup name ts, looked_up name ts, λ p r. looked_only name r)
 
 -- "an empty name is found nowhere"
-pub empty_name : (ts : List Trailer) → lookup [] ts ≡ none
+pub empty_name : (ts : List Trailer) → lookup [] ts ≡ None
 unfolding asked
 empty_name [] = refl
 empty_name (t ∷ ts) = empty_name ts

@@ -1,26 +1,40 @@
 -- The record of a trailer, and where its value stands: document 01, "Trailer lines and values". Every call that answers a trailer
 -- answers this record.
-use Rattle.std.specs.Prelude.{List, [], ◌++◌, ℕ, ◌+◌, ltb, length, drop, if◌then◌else◌}
+use Rattle.std.specs.Prelude.{List, [], ◌++◌, ℕ, ◌+◌, ltb, length, drop, Option, Result, Ok, Err, if◌then◌else◌}
 use Rattle.rules.specs.Trailer.{Trailer, place_of, end_of, first_end_of, ending_of, token_of, raw_value, raw_value_at, unfolded, value_is_written}
 use Rattle.rules.specs.White.{trim, trim_at}
+use Rattle.rules.specs.declared.BlockCursor.{BlockCursor}
+use Rattle.rules.specs.declared.BlockPlaces.{BlockPlaces}
+use Rattle.rules.specs.declared.BlockStep.{BlockStep}
+use Rattle.rules.specs.declared.Cursor.{Cursor}
 use Rattle.rules.specs.declared.Ending.{Ending}
 use Rattle.rules.specs.declared.Part.{Part}
 use Rattle.rules.specs.declared.Places.{Places}
 use Rattle.rules.specs.declared.Refusal.{Refusal}
 use Rattle.rules.specs.declared.TrailerRef.{TrailerRef}
+use Rattle.rules.specs.declared.TrailerStep.{TrailerStep}
 use Rattle.rules.specs.declared.Value.{Value}
-use Rattle.rules.specs.declared.ValueFound.{ValueFound}
 
 abbrev pub part : ℕ → ℕ → Part
 part start end = record { start = start; end = end }
 
+-- a step of the trailer walk, and of the block walk
+abbrev pub step_with : Option TrailerRef → Cursor → TrailerStep
+step_with found next = record { found = found; next = next }
+
+abbrev pub block_step_with : Option BlockPlaces → BlockCursor → BlockStep
+block_step_with found next = record { found = found; next = next }
+
+abbrev pub block_places : ℕ → ℕ → BlockPlaces
+block_places message_end end = record { message_end = message_end; end = end }
+
 -- ---- a text that is written
 
 -- "the output buffer is shorter than the answer to be written"; otherwise it stands at the buffer's front
-abbrev pub written_found : List ℕ → ℕ → ValueFound
+abbrev pub written_found : List ℕ → ℕ → Result Value Refusal
 written_found text room =
-    if ltb room (length text) then ValueFound.Refused (Refusal.NoRoom (length text))
-    else ValueFound.At (Value.InBuffer (part 0 (length text)))
+    if ltb room (length text) then Err (Refusal.NoRoom (length text))
+    else Ok (Value.InBuffer (part 0 (length text)))
 
 -- "A refusal writes nothing [..]. A success writes the answer at the buffer's front and keeps every byte behind it."
 abbrev pub fitted : List ℕ → List ℕ → List ℕ

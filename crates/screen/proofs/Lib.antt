@@ -1,4 +1,4 @@
--- What carries the proofs of the code, the listing's length, and that the answer of `listing_into` is told by its number and values.
+-- What carries the proofs of the code, the listing's length, and that the answer of `listing_into` is known by its number and values.
 pub mod Decimal
 pub mod Lines
 pub mod Writing

@@ -1,4 +1,5 @@
 -- The lines of a walk, one trailer at a time, and how long they can be. Assumes nothing.
+use Rattle.std.specs.Prelude.{Some}
 use mathlib.Core.List.{List, [], ◌∷◌, ◌++◌}
 use mathlib.Core.Path.{◌≡◌, refl, sym, ap, ◌∙◌}
 use Prim.Native.Nat.{ℕ, ◌+◌, ◌-◌, ◌*◌, ◌≤◌}
@@ -9,15 +10,13 @@ use Rattle.rules.proofs.Record.{places_fit, raw_is, token_is}
 use Rattle.rules.proofs.Unfolded.{unfolded_short}
 use Rattle.rules.proofs.Walk.{Stands, those_place, walk_stands, walk_step}
 use Rattle.rules.specs.Record.{places_of}
-use Rattle.rules.specs.Trailer.{Trailer, end_of, is_of, place_of, token_of, unfolded, walk_from}
+use Rattle.rules.specs.Trailer.{Trailer, end_of, is_of, only, place_of, token_of, unfolded, walk_from}
 use Rattle.rules.specs.declared.Kind.{Kind}
 use Rattle.rules.specs.declared.Places.{Places}
 use Rattle.copy.specs.Onto.{onto}
 use Rattle.copy.proofs.Onto.{onto-append, onto-nil}
 use Rattle.trailer.proofs.Steps.{First, first_is}
 use Rattle.trailer.specs.Walk.{next_of}
-use Rattle.trailer.specs.declared.walk.NextTrailer.{NextTrailer}
-use Rattle.listing.proofs.Turn.{all_kept}
 use Rattle.adding.proofs.Writing.{size_kept}
 use Rattle.message.specs.Message.{walk_start}
 use Rattle.message.proofs.Started.{walk_fits}
@@ -58,7 +57,12 @@ pub record Found (m : List ℕ) (at : ℕ) (p : Places) : Type 0 where
   pub one : length (walk_from m at) ≡ length (walk_from m p.end) + 1
   pub lines : lines_from m at ≡ line_at m p ++ lines_from m p.end
 
-module _ (m : List ℕ) (at : ℕ) {p : Places} (q : next_of (walk_from m at) ≡ NextTrailer.Trailer p) where
+-- every token is of all kinds
+all_pass : (ts : List Trailer) → only Kind.All ts ≡ ts
+all_pass [] = refl
+all_pass (t ∷ ts) = ap (λ (us : List Trailer). t ∷ us) (all_pass ts)
+
+module _ (m : List ℕ) (at : ℕ) {p : Places} (q : next_of (walk_from m at) ≡ Some p) where
   first : First (walk_from m at) p
   first = first_is (walk_from m at) q
 
@@ -88,7 +92,7 @@ module _ (m : List ℕ) (at : ℕ) {p : Places} (q : next_of (walk_from m at) �
       let begin : p.start ≡ place_of t = ap (λ (k : Places). k.start) first.places in
       record {
         fits = places_fit there first.places;
-        ahead = omega (arith, begin, those_place m (is_of Kind.All) at (walk_from m at) t first.later refl (all_kept (walk_from m at) ∙ first.walked));
+        ahead = omega (arith, begin, those_place m (is_of Kind.All) at (walk_from m at) t first.later refl (all_pass (walk_from m at) ∙ first.walked));
         one = omega (arith, ap length list);
         lines = lines_are;
       }

@@ -5,9 +5,8 @@ use mathlib.Core.Path.{◌≡◌, refl, sym, ap, ◌∙◌}
 use Prim.Native.Nat.{ℕ, ◌+◌, ◌-◌, ◌≤◌}
 use native.Mathlib.Omega.{arith}
 use borrow.Rule.Slice.PartMut.{put_mid}
-use lib.ListN.{length, take, drop, length-append, length-drop}
+use lib.ListN.{length, take, drop, length-append}
 use lib.Seq.{paste}
-use Rattle.rules.proofs.Parts.{rest}
 use Rattle.rules.specs.Bytes.{LF, bytes}
 use Rattle.rules.specs.Trailer.{unfolded}
 use Rattle.copy.specs.Onto.{onto}
@@ -50,9 +49,6 @@ module _ (digits d : List ℕ) (h : length (first_line digits) ≤ length d) whe
       number : p ≡ onto 9 digits o
       number = copied o p digits 9 f
 
-      pub number_size : length p ≡ length d
-      number_size = size_kept o p digits 9 number (omega (arith, first_fits, word_size)) ∙ word_size
-
       pub first_put : (q : List ℕ) → q ≡ paste p (9 + length digits) (LF ∷ []) 1 → q ≡ onto 0 (first_line digits) d
       first_put q g =
           let lf : q ≡ onto (9 + length digits) (LF ∷ []) p = copied p q (LF ∷ []) (9 + length digits) g in
@@ -69,9 +65,6 @@ module _ (token : List ℕ) (at : ℕ) (d : List ℕ) (h : at + length (name_of 
     there : o ≡ onto at token d
     there = copied d o token at e
 
-    pub token_size : length o ≡ length d
-    token_size = size_kept d o token at there (omega (arith, name_fits))
-
     pub name_put : (p : List ℕ) → p ≡ paste o (at + length token) (bytes ": ") 2 → p ≡ onto at (name_of token) d
     name_put p f =
         let colon : p ≡ onto (at + length token) (bytes ": ") o = copied o p (bytes ": ") (at + length token) f in
@@ -83,15 +76,9 @@ module _ (raw : List ℕ) (at : ℕ) (d : List ℕ) (h : at + length (value_line
   pub value_fits : at + length (unfolded raw) + 1 ≤ length d
   value_fits = omega (arith, value_size raw)
 
-  pub tail_fits : length (unfolded raw) ≤ length (take (length d - at) (drop at d))
-  tail_fits = omega (arith, value_fits, ap length (rest d at), length-drop at d)
-
   module _ (z : List ℕ) (e : z ≡ unfolded raw ++ drop (length (unfolded raw)) (take (length d - at) (drop at d))) where
     tail : put_mid at (length d - at) d z ≡ onto at (unfolded raw) d
     tail = ap (put_mid at (length d - at) d) e ∙ tail_written d (unfolded raw) at
-
-    pub tail_size : length (put_mid at (length d - at) d z) ≡ length d
-    tail_size = size_kept d (put_mid at (length d - at) d z) (unfolded raw) at tail (omega (arith, value_fits))
 
     pub value_put : (n : ℕ) (q : List ℕ) → n ≡ length (unfolded raw) → q ≡ paste (put_mid at (length d - at) d z) (at + n) (LF ∷ []) 1 → q ≡ onto at (value_line raw) d
     value_put n q k f =
@@ -102,9 +89,6 @@ module _ (raw : List ℕ) (at : ℕ) (d : List ℕ) (h : at + length (value_line
 -- ---- both
 
 module _ (token raw d : List ℕ) (i : ℕ) (h : i + length (line_of token raw) ≤ length d) (o : List ℕ) (e : o ≡ onto i (name_of token) d) where
-  pub half_size : length o ≡ length d
-  half_size = size_kept d o (name_of token) i e (omega (arith, line_size token raw))
-
   pub line_put : (p : List ℕ) (j : ℕ) → j ≡ i + length (name_of token) → p ≡ onto j (value_line raw) o → p ≡ onto i (line_of token raw) d
   line_put p j k f =
       behind d o p (name_of token) (value_line raw) i j e f k (omega (arith, line_size token raw)) ∙ ap (λ (w : List ℕ). onto i w d) (line_halves token raw)

@@ -1,14 +1,15 @@
 -- The answer of `listing_into`: refusal 1 for a message over the limit, 3 with the listing's length where the buffer is shorter.
-use Rattle.std.specs.Prelude.{List, [], ◌∷◌, ℕ, length}
-use Rattle.rules.specs.Answers.{Said, says, afterwards, judged, no_room, too_long}
+use Rattle.std.specs.Prelude.{List, [], ◌∷◌, ℕ, length, Result}
+use Rattle.rules.specs.Answers.{Said, says, afterwards, answered, judged, no_room, too_long}
 use Rattle.screen.specs.Listing.{listing}
-use Rattle.screen.specs.declared.ListingWritten.{ListingWritten}
+use Rattle.rules.specs.declared.Refusal.{Refusal}
 
 -- the listing's length
-abbrev pub written_says : ListingWritten → Said
-written_says (ListingWritten.Length n) = says 0 (n ∷ [])
-written_says ListingWritten.TooLong = says 1 []
-written_says (ListingWritten.NoRoom needed) = says 3 (needed ∷ [])
+abbrev pub length_values : ℕ → List ℕ
+length_values n = n ∷ []
+
+abbrev pub written_says : Result ℕ Refusal → Said
+written_says = answered length_values
 
 abbrev pub listing_answer : List ℕ → ℕ → Said
 listing_answer message room =

@@ -10,17 +10,9 @@ ghost use Rattle.screen.specs.Parts.{Fits, line_at, lines_from, name_of, sizes_f
 
 use copy::copy_at;
 use message::message_trailers;
-use rules::{Places, WalkFound};
-use trailer::walk::{NextTrailer, next_trailer_from};
+use rules::{Places, Refusal};
+use trailer::walk::next_trailer_from;
 use value::{unfold_into, unfolded_len};
-
-// Of `listing_into`: the length written, or why nothing was; `NoRoom` has the exact length needed.
-#[derive(Drop)]
-pub enum ListingWritten {
-    Length(usize),
-    TooLong,
-    NoRoom(usize),
-}
 
 // How many trailers there are, and how long their lines are together.
 #[derive(Drop)]
@@ -34,11 +26,8 @@ fn line_len(message: &[u8], at: Places) -> usize
     requires { Fits message.now at }
     ensures { result ≡ length (line_at message.now at) }
 {
-    let from = at.value_start;
-    let to = at.end;
-    let value = unfolded_len(&message[from..to]);
-    let token = at.token_end - at.start;
-    token + 2 + value + 1
+    let value = unfolded_len(&message[at.value_start..at.end]);
+    at.token_end - at.start + 2 + value + 1
 }
 
 // What the lines of the walk from `at` on need.
@@ -46,19 +35,17 @@ fn measure(message: &[u8], at: usize) -> Sizes
     requires { (at ≤ length message.now) × (length message.now ≤ limit) }
     ensures { result ≡ sizes_from message.now at }
 {
-    let mut trailers: u64 = 0;
-    let mut bytes: usize = 0;
+    let mut sizes = Sizes {
+        trailers: 0,
+        bytes: 0,
+    };
     let mut from = at;
-    loop {
-        let found = next_trailer_from(message, from);
-        let NextTrailer::Trailer(places) = found else {
-            return Sizes { trailers, bytes };
-        };
-        let end = places.end;
-        bytes += line_len(message, places);
-        trailers += 1;
-        from = end;
+    while let Some(places) = next_trailer_from(message, from) {
+        sizes.trailers += 1;
+        sizes.bytes += line_len(message, places);
+        from = places.end;
     }
+    sizes
 }
 
 // Writes the first line, with the digits of the number of trailers.
@@ -102,12 +89,8 @@ fn put_line(message: &[u8], at: Places, out: &mut [u8], place: usize) -> usize
     ensures value { result ≡ place + length (line_at message.now at) }
     ensures out_after { out.new ≡ onto place (line_at message.now at) out.old }
 {
-    let start = at.start;
-    let token_end = at.token_end;
-    let from = at.value_start;
-    let to = at.end;
-    let value = put_name(&message[start..token_end], out, place);
-    put_value(&message[from..to], out, value)
+    let value = put_name(&message[at.start..at.token_end], out, place);
+    put_value(&message[at.value_start..at.end], out, value)
 }
 
 // Writes the lines of the walk from `at` on, one behind another from `place` on.
@@ -117,35 +100,27 @@ fn put_lines(message: &[u8], at: usize, out: &mut [u8], place: usize)
 {
     let mut from = at;
     let mut to = place;
-    loop {
-        let found = next_trailer_from(message, from);
-        let NextTrailer::Trailer(places) = found else {
-            return;
-        };
-        let next = places.end;
+    while let Some(places) = next_trailer_from(message, from) {
         to = put_line(message, places, out, to);
-        from = next;
+        from = places.end;
     }
 }
 
-// Writes the listing of a message to the front of `out`.
-pub fn listing_into(message: &[u8], out: &mut [u8]) -> ListingWritten
+// Writes the listing of a message to the front of `out`, and answers its length.
+pub fn listing_into(message: &[u8], out: &mut [u8]) -> Result<usize, Refusal>
     ensures result_value { written_says result ≡ listing_answer message.now (length out.old) }
     ensures out_after { out.new ≡ listing_buffer message.now out.old }
 {
-    let WalkFound::From(start) = message_trailers(message) else {
-        return ListingWritten::TooLong;
-    };
-    let at = start.at;
-    let sizes = measure(message, at);
+    let start = message_trailers(message)?;
+    let sizes = measure(message, start.at);
     let mut text = [0u8; 20];
     let digits = io::decimal(sizes.trailers, &mut text);
     let first = 10 + digits;
     let needed = first + sizes.bytes;
     if out.len() < needed {
-        return ListingWritten::NoRoom(needed);
+        return Err(Refusal::NoRoom(needed));
     }
     put_first(&text[..digits], out);
-    put_lines(message, at, out, first);
-    ListingWritten::Length(needed)
+    put_lines(message, start.at, out, first);
+    Ok(needed)
 }

@@ -1,8 +1,8 @@
 -- What the functions answer: how far the reader of the mailbox has come, and in which state.
-use Rattle.std.specs.Prelude.{Bool, false, List, ◌≡◌, ℕ, ◌≤◌, eqb, length, drop, if◌then◌else◌}
-use Rattle.mailbox.specs.Grammar.{refused}
+use Rattle.std.specs.Prelude.{false, List, ◌≡◌, ℕ, ◌≤◌, length, drop, Result, Ok, Err, IfOk}
 use Rattle.mailbox.specs.Reader.{Half, Home, State, local, domain, names, opened, behind, closed, home, atom, quote, quote_taken, text, dotted, inside, inside_taken, dead, sign_of, next, start}
-use Rattle.comment.specs.Ends.{Watch, Stopped, answered, until, end, GapEnd}
+use Rattle.mailbox.specs.declared.MailboxError.{MailboxError}
+use Rattle.comment.specs.Ends.{refusal, refused_at, Watch, Stopped, answered, until, GapEnd}
 use Rattle.pieces.specs.Ends.{DotEnd}
 use Rattle.signer.specs.declared.Passed.{Passed}
 
@@ -32,22 +32,26 @@ stage (dead n k) = 0
 abbrev pub Quiet : Watch → ℕ → Type 0
 Quiet w n = (st : State) (t : List ℕ) → stage st ≡ n → w.over st t ≡ false
 
--- number 0: the reading goes on from the place in this state; otherwise it is answered by the refusal
-abbrev pub toward : Watch → List ℕ → State → Passed → Stopped
-toward w s st e = if eqb e.number 0 then until w e.at st (drop e.at s) else answered (refused e.number e.at)
+-- behind what was passed the reading goes on in its state; or it is answered by the refusal
+abbrev pub toward : Watch → List ℕ → (Passed → State) → Result Passed MailboxError → Stopped
+toward w s st (Ok p) = until w p.at (st p) (drop p.at s)
+toward w s st (Err e) = answered (refusal e)
 
--- from the front up to behind the `<`; the first word's start and the last one's end, both 0 on a refusal
-pub record NamesEnd (s : List ℕ) (e : Passed) : Type 0 where
-  pub reads : (w : Watch) → Quiet w 0 → until w 0 start s ≡ toward w s (home (opened (local e.from e.to))) e
-  pub none : (e.number ≡ 0 → ⊥) → (e.from ≡ 0) × (e.to ≡ 0)
-  pub within : e.at ≤ length s
+-- the place behind it, or the refusal's
+abbrev pub passed_at : Result Passed MailboxError → ℕ
+passed_at (Ok p) = p.at
+passed_at (Err e) = refused_at e
 
--- from behind the `<` or the `@` up to behind the sign that follows the dot-atom; the dot-atom's start, behind white space and
--- comments, and its end, both 0 on a refusal
-pub record HalfEnd (s : List ℕ) (at sign : ℕ) (e : Passed) : Type 0 where
+-- from the front up to behind the `<`; the part is from the first word's start to the last one's end
+pub record NamesEnd (s : List ℕ) (e : Result Passed MailboxError) : Type 0 where
+  pub reads : (w : Watch) → Quiet w 0 → until w 0 start s ≡ toward w s (λ p. home (opened (local p.part.start p.part.end))) e
+  pub within : passed_at e ≤ length s
+
+-- from behind the `<` or the `@` up to behind the sign that follows the dot-atom; the part is the dot-atom, which starts behind white
+-- space and comments
+pub record HalfEnd (s : List ℕ) (at sign : ℕ) (e : Result Passed MailboxError) : Type 0 where
   pub reads : (w : Watch) (half : Half) → sign_of half ≡ sign → Quiet w (half_stage half)
-      → until w at (home (opened half)) (drop at s) ≡ toward w s (home (next half e.from e.to)) e
-  pub gap : e.number ≡ 0 → GapEnd s at (end 0 e.from)
-  pub dots : e.number ≡ 0 → DotEnd s e.from (end 0 e.to)
-  pub none : (e.number ≡ 0 → ⊥) → (e.from ≡ 0) × (e.to ≡ 0)
-  pub within : e.at ≤ length s
+      → until w at (home (opened half)) (drop at s) ≡ toward w s (λ p. home (next half p.part.start p.part.end)) e
+  pub gap : IfOk e (λ p. GapEnd s at (Ok p.part.start))
+  pub dots : IfOk e (λ p. DotEnd s p.part.start (Ok p.part.end))
+  pub within : passed_at e ≤ length s

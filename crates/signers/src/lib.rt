@@ -5,9 +5,9 @@ ghost use Rattle.std.specs.Prelude.{◌≤◌, length};
 
 use body::{is_of_kind, next_trailer};
 use console::{large_buffer, print_decimal, write_all};
-use mailbox::MailboxFound;
+use mailbox::Mailbox;
 use message::message_trailers;
-use rules::{Kind, TrailerRef, TrailerStep, Value, WalkFound, YesNo};
+use rules::{Kind, TrailerRef, Value};
 use signer::mailbox;
 use std::io::Write;
 use view::value_of;
@@ -16,40 +16,35 @@ use view::value_of;
 pub fn print_trailers<W: Write>(out: &mut W, message: &[u8])
     requires { length message.now ≤ 32768 }
 {
-    let WalkFound::From(start) = message_trailers(message) else {
+    let Ok(mut cursor) = message_trailers(message) else {
         return;
     };
     let mut buffer = large_buffer();
-    let mut cursor = start;
-    while let TrailerStep::Trailer { found, next } = next_trailer(message, cursor, &mut buffer) {
+    while let Ok(step) = next_trailer(message, cursor, &mut buffer) {
+        let Some(found) = step.found else {
+            return;
+        };
         print_trailer(out, message, &buffer, found);
-        cursor = next;
+        cursor = step.next;
     }
 }
 
 // Prints the number of a trailer's line and its token; and, if it is an attribution and its value is a mailbox, the name and the
 // address under it.
-fn print_trailer<'a, W: Write>(
-    out: &mut W,
-    message: &'a [u8],
-    buffer: &'a [u8],
-    trailer: TrailerRef,
-) {
-    let token = trailer.token;
-    let value = trailer.value;
+fn print_trailer<W: Write>(out: &mut W, message: &[u8], buffer: &[u8], trailer: TrailerRef) {
+    let token = value_of(message, buffer, Value::InInput(trailer.token));
     write_all(out, b"line ");
     print_decimal(out, trailer.line as u64);
-    print_part(out, b": ", value_of(message, buffer, Value::InInput(token)));
+    print_part(out, b": ", token);
     write_all(out, b"\n");
-    let YesNo::Yes = is_of_kind(message, token, Kind::Attribution) else {
-        return;
-    };
-    print_signer(out, value_of(message, buffer, value));
+    if let Ok(true) = is_of_kind(message, trailer.token, Kind::Attribution) {
+        print_signer(out, value_of(message, buffer, trailer.value));
+    }
 }
 
 // Prints the name and the address of a value that is a mailbox.
 fn print_signer<W: Write>(out: &mut W, text: &[u8]) {
-    let MailboxFound::Mailbox { name, address } = mailbox(text) else {
+    let Ok(Mailbox { name, address }) = mailbox(text) else {
         return;
     };
     print_part(
@@ -65,7 +60,7 @@ fn print_signer<W: Write>(out: &mut W, text: &[u8]) {
     write_all(out, b"\n");
 }
 
-// Prints bytes behind what stands before them.
+// Prints bytes after what stands before them.
 fn print_part<W: Write>(out: &mut W, before: &[u8], part: &[u8]) {
     write_all(out, before);
     write_all(out, part);

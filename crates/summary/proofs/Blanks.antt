@@ -1,40 +1,51 @@
--- The ASCII blanks at the end of a piece: they go from the end, byte by byte, and what stays is at its front. Assumes nothing.
-use mathlib.Core.Bool.{Bool, true, false, ◌&&◌, ◌||◌}
-use mathlib.Core.List.{List, [], ◌∷◌, ◌++◌}
+-- The ASCII blanks at the end of a piece: what the library's `trim_ascii_end` keeps is what stays without them. Assumes nothing.
+use Rattle.std.proofs.lemmas.Bool.Decides.{nat_tests}
+use Rattle.std.specs.Char.{is_ascii_whitespace}
+use Rattle.std.specs.Str.{IsAsciiWhitespaceFrom, IsTrimAsciiEnd}
+use mathlib.Core.Bool.{Bool, true, false, and-false, ◌||◌}
+use mathlib.Core.List.{List, [], ◌∷◌}
 use mathlib.Core.Logic.{inl, inr}
-use mathlib.Core.Path.{◌≡◌, refl, ap, ◌∙◌}
-use Prim.Native.Nat.{ℕ}
+use mathlib.Core.Path.{◌≡◌, refl, sym, ◌∙◌}
+use Prim.Native.Nat.{ℕ, zero, suc, ◌+◌, ◌-◌, ◌≤◌, ◌<◌}
+use native.Mathlib.Omega.{arith}
 use lib.Dec.{T, eqb, eqb→eq}
-use lib.ListN.{length, take}
-use lib.Seq.{take-append_seam}
+use lib.ListN.{length, take, get_or}
 use Rattle.rules.specs.Bytes.{blank_byte, within}
 use Rattle.rules.specs.Lists.{all}
 use Rattle.rules.specs.Summary.{drop_blanks}
 use Rattle.rules.proofs.Lists.{or_cases}
-use Rattle.rules.proofs.SummaryTwice.{dropped}
 
--- ---- one byte more at the end
+-- ---- the library's ASCII white space is the rules' ASCII blank
 
-all_blank : (p : List ℕ) (b : ℕ) → blank_byte b ≡ true → all blank_byte (p ++ b ∷ []) ≡ all blank_byte p
-all_blank [] b e = rw e
-all_blank (c ∷ p) b e = rw (all_blank p b e)
+blank_is : (c : ℕ) → is_ascii_whitespace c ≡ blank_byte c
+unfolding blank_byte
+blank_is c = grind (arith, nat_tests)
 
-all_other : (p : List ℕ) (b : ℕ) → blank_byte b ≡ false → all blank_byte (p ++ b ∷ []) ≡ false
-all_other [] b e = rw e
-all_other (c ∷ p) b e = rw (all_other p b e) (elim (blank_byte c) as (λ t. t && false ≡ false) [ true ↦ refl | false ↦ refl ])
+-- ---- all of a piece is blank, or a byte of it is not
 
-pub blank_goes : (p : List ℕ) (b : ℕ) → blank_byte b ≡ true → drop_blanks (p ++ b ∷ []) ≡ drop_blanks p
-blank_goes [] b e = rw e
-blank_goes (c ∷ p) b e = rw (all_blank p b e, blank_goes p b e)
+all_true : (p : List ℕ) → ((i : ℕ) → i < length p → is_ascii_whitespace (get_or p i 0) ≡ true) → all blank_byte p ≡ true
+all_true [] h = refl
+all_true (c ∷ p) h = rw (sym (blank_is c) ∙ h 0 (omega arith)) (all_true p (λ i k. h (suc i) (omega arith)))
 
-pub other_stays : (p : List ℕ) (b : ℕ) → blank_byte b ≡ false → drop_blanks (p ++ b ∷ []) ≡ p ++ b ∷ []
-other_stays [] b e = rw e
-other_stays (c ∷ p) b e = rw (all_other (c ∷ p) b e, other_stays p b e)
+all_false : (p : List ℕ) (i : ℕ) → i < length p → is_ascii_whitespace (get_or p i 0) ≡ false → all blank_byte p ≡ false
+all_false [] i k e = absurd (omega arith)
+all_false (c ∷ p) zero k e = rw (sym (blank_is c) ∙ e)
+all_false (c ∷ p) (suc i) k e = rw (all_false p i (omega arith) e) (and-false (blank_byte c))
 
--- ---- what stays is at the front
+-- ---- what stays without the blanks at the end
 
-pub front_stays : (p : List ℕ) (n : ℕ) → n ≡ length (drop_blanks p) → take n p ≡ drop_blanks p
-front_stays p n e = let (w, q) = dropped p in rw e (ap (take (length (drop_blanks p))) q ∙ take-append_seam (drop_blanks p) w)
+front : (p : List ℕ) (n : ℕ) → n ≤ length p → IsAsciiWhitespaceFrom p n → ((i : ℕ) → n ≡ i + 1 → is_ascii_whitespace (get_or p i 0) ≡ false)
+    → drop_blanks p ≡ take n p
+front [] zero h w e = refl
+front [] (suc n) h w e = absurd (omega arith)
+front (c ∷ p) zero h w e = rw (all_true (c ∷ p) (λ i k. w i (omega arith) k))
+front (c ∷ p) (suc n) h w e =
+    let more = front p n (omega arith) (λ i k l. w (suc i) (omega arith) (omega arith)) (λ i k. e (suc i) (omega arith)) in
+    rw (all_false (c ∷ p) n (omega arith) (e n (omega arith)), more)
+
+pub trimmed : (p r : List ℕ) → IsTrimAsciiEnd p r → r ≡ drop_blanks p
+trimmed p r (n, e, l, h, w, s) =
+    e ∙ sym (front p n h w (λ i k. let last : i ≡ n - 1 = omega arith in rw last (s (omega arith))))
 
 -- ---- no blank is above the space
 

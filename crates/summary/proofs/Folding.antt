@@ -8,14 +8,14 @@ use lib.ListN.{length, drop, length-append}
 use Rattle.rules.specs.Lines.{inner}
 use Rattle.rules.specs.Lists.{run}
 use Rattle.rules.specs.Summary.{added, folded, pieces}
-use Rattle.summary.specs.Put.{put}
+use Rattle.copy.specs.Onto.{onto}
+use Rattle.copy.proofs.Onto.{onto-append}
 use Rattle.summary.proofs.Pieces.{piece, added_at}
-use Rattle.summary.proofs.Put.{put-put}
 
 -- `out` with the pieces before `at` written, `len` bytes: with the others it is as promised
 pub record Begun (text out₀ out : List ℕ) (len at : ℕ) : Type 0 where
   pub size : len + length (added (pieces (drop at text))) ≡ length (added (pieces text))
-  pub promised : put out len (added (pieces (drop at text))) ≡ added (pieces text) ++ drop (length (added (pieces text))) out₀
+  pub promised : onto len (added (pieces (drop at text))) out ≡ added (pieces text) ++ drop (length (added (pieces text))) out₀
 
 -- the piece from `at` to an LF at `pos` is written
 module _ (s out₀ out : List ℕ) (len at pos : ℕ) (e : pos ≡ at + length (run inner (drop at s))) (h : pos < length s)
@@ -23,8 +23,8 @@ module _ (s out₀ out : List ℕ) (len at pos : ℕ) (e : pos ≡ at + length (
   pub room : len + length (folded (piece s at pos)) + length (added (pieces (drop (pos + 1) s))) ≡ length (added (pieces s))
   room = omega (arith, b.size, ap length (added_at s at pos e h), length-append (folded (piece s at pos)) (added (pieces (drop (pos + 1) s))))
 
-  pub turn : Begun s out₀ (put out len (folded (piece s at pos))) (len + length (folded (piece s at pos))) (pos + 1)
+  pub turn : Begun s out₀ (onto len (folded (piece s at pos)) out) (len + length (folded (piece s at pos))) (pos + 1)
   turn =
-      let both = put-put out (folded (piece s at pos)) (added (pieces (drop (pos + 1) s))) len (omega (arith, room)) in
-      let w = ap (put out len) (added_at s at pos e h) in
-      record { size = room; promised = both ∙ sym w ∙ b.promised }
+      let both = onto-append len (folded (piece s at pos)) (added (pieces (drop (pos + 1) s))) out (omega (arith, room)) in
+      let w = ap (λ (v : List ℕ). onto len v out) (added_at s at pos e h) in
+      record { size = room; promised = sym both ∙ sym w ∙ b.promised }

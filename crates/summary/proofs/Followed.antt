@@ -3,7 +3,7 @@ use Rattle.std.specs.Prelude.{if◌then◌else◌}
 use mathlib.Core.Bool.{Bool, true, false, and-false, not, ◌&&◌, ◌||◌}
 use mathlib.Core.List.{List, [], ◌∷◌}
 use mathlib.Core.Path.{◌≡◌, refl, sym, ◌∙◌}
-use Prim.Native.Nat.{ℕ, zero, suc, ◌+◌, ◌-◌, ◌≤◌, ◌<◌}
+use Prim.Native.Nat.{ℕ, zero, suc, ◌+◌, ◌≤◌, ◌<◌}
 use native.Mathlib.Nat.{zero-add}
 use native.Mathlib.Numerals.{add-one}
 use native.Mathlib.Omega.{arith}
@@ -13,7 +13,6 @@ use lib.Seq.{drop-cons, drop-drop}
 use Rattle.rules.specs.Bytes.{LF, within}
 use Rattle.rules.specs.Lists.{run}
 use Rattle.rules.proofs.Lists.{or_none}
-use Rattle.rules.proofs.Parts.{rest}
 use Rattle.find.specs.Find.{is_lf, until_lf}
 use Rattle.summary.specs.Followed.{any_followed, followed, until_followed}
 
@@ -35,13 +34,7 @@ module _ (low high : ℕ) where
       let front = run_front n (drop i s) (omega (arith, length-drop i s)) e in
       omega (arith, rw (drop-drop n i s) at front)
 
-  -- what is passed in the rest from `i` on is passed in the whole
-  pub part_passed : (s : List ℕ) (i : ℕ) {r : ℕ} → i ≤ length s →
-      let t = take (length s - i) (drop i s) in (r ≤ length t) × (r + until_followed low high (drop r t) ≡ until_followed low high t) →
-      (i + r ≤ length s) × ((i + r) + until_followed low high (drop (i + r) s) ≡ i + until_followed low high (drop i s))
-  part_passed s i {r} h e = omega (arith, rw (rest s i, drop-drop r i s) at e, length-drop i s)
-
-  -- ---- byte by byte: a byte that is there, and the one behind it
+  -- ---- byte by byte: a byte that is there, and the one after it
 
   two_ahead : (s : List ℕ) (i : ℕ) → i + 1 < length s → drop i s ≡ get_or s i 0 ∷ get_or s (i + 1) 0 ∷ drop (i + 1 + 1) s
   two_ahead s i h = drop-cons s i 0 (omega arith) ∙ rw (← add-one i, drop-cons s (i + 1) 0 h, ← add-one (i + 1))
@@ -49,21 +42,13 @@ module _ (low high : ℕ) where
   next_ahead : (s : List ℕ) (i : ℕ) → i + 1 < length s → drop (i + 1) s ≡ get_or s (i + 1) 0 ∷ drop (i + 1 + 1) s
   next_ahead s i h = drop-cons s (i + 1) 0 h ∙ rw (← add-one (i + 1))
 
-  pub any_next : (s : List ℕ) (i : ℕ) → i + 1 < length s →
-      any_followed low high (drop i s) ≡ (followed low high (get_or s i 0) (get_or s (i + 1) 0) || any_followed low high (drop (i + 1) s))
-  any_next s i h = rw (two_ahead s i h, next_ahead s i h)
-
-  pub here : (s : List ℕ) (i : ℕ) → i + 1 < length s → followed low high (get_or s i 0) (get_or s (i + 1) 0) ≡ true →
-      until_followed low high (drop i s) ≡ 0
-  here s i h e = rw (two_ahead s i h, e)
-
   pub later : (s : List ℕ) (i : ℕ) → i + 1 < length s → followed low high (get_or s i 0) (get_or s (i + 1) 0) ≡ false →
       until_followed low high (drop i s) ≡ suc (until_followed low high (drop (i + 1) s))
   later s i h e = rw (two_ahead s i h, e, next_ahead s i h)
 
-  -- ---- behind the last byte but one there is none
+  -- ---- after the last byte but one there is none
 
-  short : (s : List ℕ) → length s ≤ 1 → (any_followed low high s ≡ false) × (until_followed low high s ≡ length s)
+  pub short : (s : List ℕ) → length s ≤ 1 → (any_followed low high s ≡ false) × (until_followed low high s ≡ length s)
   short [] h = (refl, refl)
   short (c ∷ []) h = (refl, refl)
   short (c ∷ d ∷ s) h = absurd (omega arith)

@@ -3,7 +3,6 @@ pub mod Blanks
 pub mod Followed
 pub mod Pieces
 pub mod Plain
-pub mod Put
 pub mod InOne
 pub mod Stop
 pub mod Folding

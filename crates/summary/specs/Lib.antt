@@ -1,4 +1,3 @@
 -- The words that the contracts of this crate add to those of rules.
 pub mod Followed
-pub mod Put
 pub mod Spaces

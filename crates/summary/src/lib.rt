@@ -2,24 +2,23 @@
 // go is found first, then the answer is written to the buffer's front.
 #![tactic(auto)]
 
-ghost use Rattle.std.specs.Prelude.{false, not, ◌++◌, ◌≡◌, ◌+◌, ◌≤◌, ltb, length, take, drop};
+ghost use Rattle.std.specs.Prelude.{false, not, ◌++◌, ◌≡◌, ◌+◌, ◌≤◌, ◌<◌, ltb, length, take, drop};
+ghost use Rattle.copy.specs.Onto.{onto};
 ghost use Rattle.rules.specs.Record.{fitted, written_found};
-ghost use Rattle.rules.specs.Summary.{added, drop_blanks, folded, pieces, spaced, many};
+ghost use Rattle.rules.specs.Summary.{added, folded, pieces, spaced, many};
 ghost use Rattle.rules.specs.White.{trim};
 ghost use Rattle.find.specs.Find.{until_lf};
 ghost use Rattle.summary.specs.Followed.{any_followed, followed, until_followed};
-ghost use Rattle.summary.specs.Put.{put};
 ghost use Rattle.summary.specs.Spaces.{space_for_lf, with_spaces};
 
 use copy::copy_at;
 use find::find_lf;
-use rules::{Part, Refusal, Value, ValueFound};
-use text::line::is_ascii_whitespace;
+use rules::{Part, Refusal, Value};
 use white::trim_end;
 
 // ---- bytes that an LF follows
 
-// How many bytes of a run are looked at: an LF may stand behind each.
+// How many bytes of a run are looked at: an LF may stand after each.
 const RUN: usize = 16;
 
 // How many bytes of a block are looked at.
@@ -37,63 +36,61 @@ fn has_followed(run: &[u8], low: u8, high: u8) -> bool
     ensures { result ≡ any_followed low high run.now }
 {
     let mut found = false;
-    let mut i = 0;
-    while run.len() - i > 1 {
-        found = found | is_followed(run[i], run[i + 1], low, high);
-        i += 1;
+    for pair in run.windows(2) {
+        found |= is_followed(pair[0], pair[1], low, high);
     }
     found
 }
 
-// Where the blocks at the front end that have no such byte.
-fn past_blocks(s: &[u8], low: u8, high: u8) -> usize
-    ensures { (result ≤ length s.now) × (result + until_followed low high (drop result s.now) ≡ until_followed low high s.now) }
+// Where the parts of `N` bytes from `at` on end that have no such byte, as far as there are whole ones and a byte more before `end`: an LF may
+// stand after the last byte of each. Most messages are short, so a call would take longer than the look.
+#[inline(always)]
+fn past_parts<const N: usize>(s: &[u8], at: usize, end: usize, low: u8, high: u8) -> usize
+    requires some { 0 < N }
+    requires in_bounds { (at ≤ end) × (end ≤ length s.now) }
+    ensures within { (at ≤ result) × (result ≤ end) }
+    ensures same { result + until_followed low high (drop result s.now) ≡ at + until_followed low high (drop at s.now) }
 {
-    let mut i = 0;
-    while s.len() - i > BLOCK {
-        if has_followed(&s[i..i + BLOCK + 1], low, high) {
+    let mut i = at;
+    while end - i > N {
+        if has_followed(&s[i..i + N + 1], low, high) {
             return i;
         }
-        i += BLOCK;
+        i += N;
     }
     i
 }
 
-// Where the runs from `at` on end that have no such byte.
+// Where the runs and blocks from `at` on end that have no such byte. The bytes of the first block are looked at by runs.
 fn past_runs(s: &[u8], at: usize, low: u8, high: u8) -> usize
     requires { at ≤ length s.now }
-    ensures { (result ≤ length s.now) × (result + until_followed low high (drop result s.now) ≡ at + until_followed low high (drop at s.now)) }
+    ensures within { result ≤ length s.now }
+    ensures same { result + until_followed low high (drop result s.now) ≡ at + until_followed low high (drop at s.now) }
 {
-    let mut i = at;
-    while s.len() - i > RUN {
-        if has_followed(&s[i..i + RUN + 1], low, high) {
-            return i;
-        }
-        i += RUN;
-        if i - at == BLOCK {
-            i += past_blocks(&s[i..], low, high);
-        }
+    if s.len() - at <= BLOCK {
+        return past_parts::<RUN>(s, at, s.len(), low, high);
     }
-    i
+    let near = past_parts::<RUN>(s, at, at + BLOCK + 1, low, high);
+    if near < at + BLOCK {
+        return near;
+    }
+    let far = past_parts::<BLOCK>(s, near, s.len(), low, high);
+    past_parts::<RUN>(s, far, s.len(), low, high)
 }
 
 // The place of the first byte from `at` on that is from `low` to `high` and directly followed by an LF; the end where there is none. The byte at
-// `at` is looked at first: behind the first LF of most messages stands another.
+// `at` is looked at first: after the first LF of most messages stands another.
 fn find_followed(s: &[u8], at: usize, low: u8, high: u8) -> usize
     requires { at ≤ length s.now }
     ensures { result ≡ at + until_followed low high (drop at s.now) }
 {
-    if s.len() - at > 1 {
-        if is_followed(s[at], s[at + 1], low, high) {
-            return at;
-        }
+    if s.len() - at > 1 && is_followed(s[at], s[at + 1], low, high) {
+        return at;
     }
-    let mut i = past_runs(s, at, low, high);
-    while s.len() - i > 1 {
+    for i in past_runs(s, at, low, high)..s.len().saturating_sub(1) {
         if is_followed(s[i], s[i + 1], low, high) {
             return i;
         }
-        i += 1;
     }
     s.len()
 }
@@ -111,10 +108,8 @@ fn is_plain(message: &[u8], kept: usize, first: usize, blank: usize) -> bool
     if kept <= first {
         return true;
     }
-    if first > 0 {
-        if message[first - 1] <= b' ' {
-            return false;
-        }
+    if first > 0 && message[first - 1] <= b' ' {
+        return false;
     }
     kept - 1 <= blank
 }
@@ -123,10 +118,7 @@ fn is_plain(message: &[u8], kept: usize, first: usize, blank: usize) -> bool
 fn space_for_lf(byte: u8) -> u8
     ensures { result ≡ space_for_lf byte }
 {
-    if byte == b'\n' {
-        return b' ';
-    }
-    byte
+    if byte == b'\n' { b' ' } else { byte }
 }
 
 // Writes a message to the front of `out`, with a space for each LF.
@@ -134,45 +126,29 @@ fn copy_with_spaces(message: &[u8], out: &mut [u8])
     requires { length message.now ≤ length out.old }
     ensures { out.new ≡ with_spaces message.now ++ drop (length message.now) out.old }
 {
-    let mut i = 0;
-    while i < message.len() {
-        out[i] = space_for_lf(message[i]);
-        i += 1;
+    for (i, byte) in message.iter().enumerate() {
+        out[i] = space_for_lf(*byte);
     }
 }
 
 // The pieces of such a text, written to the front of `out` where there is room: a space for each LF, and nothing goes.
-fn write_plain(text: &[u8], out: &mut [u8]) -> ValueFound
+fn write_plain(text: &[u8], out: &mut [u8]) -> Result<Value, Refusal>
     requires { any_followed 0 32 text.now ≡ false }
     ensures value { result ≡ written_found (added (pieces text.now)) (length out.old) }
     ensures out_after { out.new ≡ fitted (added (pieces text.now)) out.old }
 {
     let needed = text.len();
     if out.len() < needed {
-        return ValueFound::Refused(Refusal::NoRoom(needed));
+        return Err(Refusal::NoRoom(needed));
     }
     copy_with_spaces(text, out);
-    ValueFound::At(Value::InBuffer(Part {
+    Ok(Value::InBuffer(Part {
         start: 0,
         end: needed,
     }))
 }
 
 // ---- any other text, piece by piece
-
-// The length of a piece without the ASCII blanks at its end.
-fn trim_blanks(piece: &[u8]) -> usize
-    ensures { result ≡ length (drop_blanks piece.now) }
-{
-    let mut n = piece.len();
-    while n > 0 {
-        if !is_ascii_whitespace(piece[n - 1]) {
-            return n;
-        }
-        n -= 1;
-    }
-    0
-}
 
 // The length of a text's pieces, folded and added.
 fn folded_len(text: &[u8]) -> usize
@@ -182,7 +158,7 @@ fn folded_len(text: &[u8]) -> usize
     let mut at = 0;
     let mut pos = find_lf(text, 0);
     while pos < text.len() {
-        len += trim_blanks(&text[at..pos]) + 1;
+        len += text[at..pos].trim_ascii_end().len() + 1;
         at = pos + 1;
         pos = find_lf(text, at);
     }
@@ -193,11 +169,11 @@ fn folded_len(text: &[u8]) -> usize
 fn fold_to(piece: &[u8], out: &mut [u8], at: usize) -> usize
     requires { at + length (folded piece.now) ≤ length out.old }
     ensures value { result ≡ at + length (folded piece.now) }
-    ensures out_after { out.new ≡ put out.old at (folded piece.now) }
+    ensures out_after { out.new ≡ onto at (folded piece.now) out.old }
 {
-    let len = trim_blanks(piece);
-    copy_at(&piece[..len], out, at);
-    let end = at + len;
+    let kept = piece.trim_ascii_end();
+    copy_at(kept, out, at);
+    let end = at + kept.len();
     out[end] = b' ';
     end + 1
 }
@@ -220,30 +196,20 @@ fn fold_into(text: &[u8], out: &mut [u8]) -> usize
     len + (pos - at)
 }
 
-// The pieces of a text that fit, written.
-fn fold_fitting(text: &[u8], out: &mut [u8]) -> ValueFound
-    requires { length (added (pieces text.now)) ≤ length out.old }
-    ensures value { result ≡ written_found (added (pieces text.now)) (length out.old) }
-    ensures out_after { out.new ≡ fitted (added (pieces text.now)) out.old }
-{
-    let end = fold_into(text, out);
-    ValueFound::At(Value::InBuffer(Part { start: 0, end }))
-}
-
 // The pieces of a text, folded and added, written to the front of `out` where there is room. They are never longer than the text, so their
 // length is found only where that does not fit.
-fn write_folded(text: &[u8], out: &mut [u8]) -> ValueFound
+fn write_folded(text: &[u8], out: &mut [u8]) -> Result<Value, Refusal>
     ensures value { result ≡ written_found (added (pieces text.now)) (length out.old) }
     ensures out_after { out.new ≡ fitted (added (pieces text.now)) out.old }
 {
-    if text.len() <= out.len() {
-        return fold_fitting(text, out);
+    if out.len() < text.len() {
+        let needed = folded_len(text);
+        if out.len() < needed {
+            return Err(Refusal::NoRoom(needed));
+        }
     }
-    let needed = folded_len(text);
-    if out.len() < needed {
-        return ValueFound::Refused(Refusal::NoRoom(needed));
-    }
-    fold_fitting(text, out)
+    let end = fold_into(text, out);
+    Ok(Value::InBuffer(Part { start: 0, end }))
 }
 
 // ---- the summary
@@ -261,17 +227,15 @@ fn find_stop(message: &[u8], blank: usize) -> usize
     requires { (blank ≤ length message.now) × (until_followed 0 32 (drop blank message.now) ≡ 0) }
     ensures { result ≡ blank + until_followed 10 10 (drop blank message.now) }
 {
-    if blank < message.len() {
-        if message[blank] == b'\n' {
-            return blank;
-        }
+    if blank < message.len() && message[blank] == b'\n' {
+        return blank;
     }
     find_followed(message, blank, b'\n', b'\n')
 }
 
 // The summary of a message that is trimmed and has its first LF at `first`: written to the front of `out`, where there is room. What is
-// folded ends where an LF directly follows an LF, and is trimmed there. One search tells both whether blanks go and where that may be.
-pub fn summarise(message: &[u8], first: usize, out: &mut [u8]) -> ValueFound
+// folded ends where an LF directly follows an LF, and is trimmed there. One search says both whether blanks go and where that may be.
+pub fn summarise(message: &[u8], first: usize, out: &mut [u8]) -> Result<Value, Refusal>
     requires { (trim message.now ≡ message.now) × (first ≡ until_lf message.now) }
     ensures value { result ≡ written_found (spaced (pieces message.now)) (length out.old) }
     ensures out_after { out.new ≡ fitted (spaced (pieces message.now)) out.old }

@@ -1,3 +1,2 @@
--- A slice that is lent again, and the turns of a table of records.
-pub mod Again
+-- A table of records.
 pub mod Entries

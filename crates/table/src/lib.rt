@@ -1,31 +1,44 @@
-// All trailers at once, into a table of records and a buffer that are lent. Everything is decided where the listing begins and made by the
-// step; this function stores.
+// All trailers at once, into a table of records and a buffer that are lent.
 #![tactic(auto)]
 
+ghost use Rattle.std.specs.Prelude.{[], ◌∷◌, refl};
+ghost use Rattle.std.proofs.Common.{rules};
 ghost use Rattle.planning.specs.Scopes.{Lists};
 
-use listing::Listing;
-use planning::{Scope, begin, list_step, with_counts};
+use listing::{Listed, ListingError};
+use planning::Scope;
+use planning::fill::{Layout, list_into};
 use rules::TrailerRef;
 
+// A table of the records themselves, one cell each.
+struct Records;
+
+impl Layout for Records {
+    type Cell = TrailerRef;
+
+    ghost WIDTH = { 1 };
+
+    const WIDTH: usize = 1;
+
+    ghost cells = { λ r. r ∷ [] };
+
+    fn put(found: TrailerRef, table: &mut [TrailerRef], at: usize) {
+        table[at] = found;
+    }
+
+    ghost some = { Prim.search rules };
+
+    ghost wide = { λ r. refl };
+}
+
 // What is listed of an input: the records into `table`, the unfolded values one behind another into `out`.
-pub fn list<'b, 't, 'o>(
-    input: &'b [u8],
+pub fn list(
+    input: &[u8],
     scope: Scope,
-    table: &'t mut [TrailerRef],
-    out: &'o mut [u8],
-) -> Listing
+    table: &mut [TrailerRef],
+    out: &mut [u8],
+) -> Result<Listed, ListingError>
     ensures { Lists input.now scope table.old out.old result table.new out.new }
 {
-    let begun = begin(input, scope, table.len(), out.len());
-    let told = begun.told;
-    let mut spot = begun.spot;
-    let mut i: usize = 0;
-    while spot.more > 0 {
-        let step = list_step(input, spot, told, out);
-        table[i] = step.found;
-        spot = step.next;
-        i += 1;
-    }
-    with_counts(begun.outcome, spot.done)
+    list_into::<Records>(input, scope, table, out)
 }

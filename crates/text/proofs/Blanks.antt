@@ -6,6 +6,9 @@ use Prim.Native.Nat.{ℕ, zero, suc, ◌+◌, ◌-◌, ◌≤◌, ◌<◌}
 use native.Mathlib.Numerals.{add-one}
 use native.Mathlib.Omega.{arith}
 use lib.ListN.{length, take, drop, get_or}
+use Rattle.std.proofs.lemmas.Bool.Decides.{nat_tests}
+use Rattle.std.specs.Char.{is_ascii_whitespace}
+use Rattle.std.specs.List.{list_all}
 use lib.Seq.{drop-cons, drop-drop}
 use Rattle.rules.specs.Bytes.{blank_byte}
 use Rattle.rules.specs.Lists.{all}
@@ -29,3 +32,13 @@ pub blank_before : (s : List ℕ) (i n : ℕ) (b : Bool) → i ≤ n → all bla
 blank_before s i n b h part behind =
     let place : i + (n - i) ≡ n = omega arith in
     blank_parts (n - i) (drop i s) ∙ rw (drop-drop (n - i) i s, place, part, behind) (and-true b)
+
+-- the library's test of a byte
+pub blank_is : (c : ℕ) → is_ascii_whitespace c ≡ blank_byte c
+unfolding blank_byte
+blank_is c = grind (arith, nat_tests)
+
+-- and that of a list
+pub all_is : (s : List ℕ) → list_all blank_byte s ≡ all blank_byte s
+all_is [] = refl
+all_is (x ∷ s) = ap (λ (b : Bool). blank_byte x && b) (all_is s)

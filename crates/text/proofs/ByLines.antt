@@ -30,7 +30,7 @@ module _ (s : List ℕ) (at n : ℕ) (h : at < length s) (e : n ≡ first_length
   pub line_ahead : (0 < n) × (at + n ≤ length s)
   line_ahead = (line_some, line_within)
 
-  -- the first line is `&s[at..at + n]`, and the lines behind it are those from its end on
+  -- the first line is `&s[at..at + n]`, and the lines after it are those from its end on
   pub line_then : lines (drop at s) ≡ take (at + n - at) (drop at s) ∷ lines (drop (at + n) s)
   line_then =
       let k : at + n - at ≡ n = omega arith in

@@ -1,13 +1,14 @@
 -- A line's text and ending by its last two bytes. Assumes nothing.
-use mathlib.Core.Bool.{true, false}
+use mathlib.Core.Bool.{Bool, true, false}
 use mathlib.Core.List.{List, [], ◌∷◌, ◌++◌}
 use mathlib.Core.Path.{◌≡◌, refl, sym, ap, ◌∙◌}
-use Prim.Native.Nat.{ℕ, ◌-◌, ◌<◌}
+use Prim.Native.Nat.{ℕ, ◌-◌, ◌≤◌, ◌<◌}
 use native.Mathlib.Numerals.{sub-one}
 use native.Mathlib.Omega.{arith}
-use lib.Dec.{eqb}
+use borrow.Author.Tests.{leb-false, leb-true, ne_eqb}
+use lib.Dec.{eqb, leb}
 use lib.ListN.{length, take, get_or, length-append}
-use lib.Seq.{take_at}
+use lib.Seq.{get_or-take, length-take-le, take_at}
 use Rattle.rules.specs.Bytes.{LF, CR}
 use Rattle.rules.specs.Lines.{Line, ending, ends_with, text, without}
 use Rattle.rules.specs.declared.Ending.{Ending}
@@ -25,10 +26,6 @@ ends_by x (c ∷ l) n = rw sub-one (last_byte x c l)
 pub ends_empty : (x : ℕ) (l : List ℕ) → length l ≡ 0 → ends_with x l ≡ false
 ends_empty x [] e = refl
 ends_empty x (c ∷ l) e = absurd (omega arith)
-
-pub ends_some : (x : ℕ) (l : List ℕ) → ends_with x l ≡ true → 0 < length l
-ends_some x [] e = let z : ◌≡◌ {A = ℕ} 0 1 = cc in absurd (omega arith)
-ends_some x (c ∷ l) e = omega arith
 
 -- ---- without an LF
 
@@ -70,3 +67,40 @@ module _ (l : Line) (q : ends_with LF l ≡ true) where
         omega (arith, length-append (without CR (without LF l)) (CR ∷ []), ap length whole, lf_inside.1),
         rw (q, r'),
       )
+
+-- ---- by its last bytes
+
+pub bare_by : (l : Line) → (0 < length l → (get_or l (length l - 1) 0 ≡ LF → ⊥) × (get_or l (length l - 1) 0 ≡ CR → ⊥))
+    → (length l ≡ length (text l)) × (Ending.None ≡ ending l)
+bare_by [] n = bare_text [] refl refl
+bare_by (c ∷ l) n =
+    let p = n (omega arith) in
+    let some : length (c ∷ l) ≡ 0 → ⊥ = λ e. absurd (omega arith) in
+    bare_text (c ∷ l) (ends_by LF (c ∷ l) some ∙ ne_eqb _ _ p.0) (ends_by CR (c ∷ l) some ∙ ne_eqb _ _ p.1)
+
+pub cr_by : (l : Line) → 0 < length l → get_or l (length l - 1) 0 ≡ CR → (length l - 1 ≡ length (text l)) × (Ending.Cr ≡ ending l)
+cr_by l h e =
+    let some : length l ≡ 0 → ⊥ = λ e. absurd (omega arith) in
+    cr_text l (ends_by LF l some ∙ rw e refl) (ends_by CR l some ∙ rw e refl)
+
+-- whether a CR stands before the LF
+before : (l : Line) → 2 ≤ length l → ends_with CR (take (length l - 1) l) ≡ eqb (get_or l (length l - 2) 0) CR
+before l h =
+    let size : length (take (length l - 1) l) ≡ length l - 1 = length-take-le (length l - 1) l (omega arith) in
+    let place : length l - 1 - 1 ≡ length l - 2 = omega arith in
+    let byte : get_or (take (length l - 1) l) (length l - 2) 0 ≡ get_or l (length l - 2) 0 = get_or-take (length l - 1) l (length l - 2) 0 (omega arith) in
+    rw (size, place, byte) at (ends_by CR (take (length l - 1) l) (λ e. absurd (omega (arith, size))))
+
+pub crlf_by : (l : Line) → 2 ≤ length l → get_or l (length l - 2) 0 ≡ CR → get_or l (length l - 1) 0 ≡ LF
+    → (length l - 2 ≡ length (text l)) × (Ending.CrLf ≡ ending l)
+crlf_by l h cr lf = crlf_text l (ends_by LF l (λ e. absurd (omega arith)) ∙ rw lf refl) (before l h ∙ rw cr refl)
+
+pub lf_by : (l : Line) → 0 < length l → get_or l (length l - 1) 0 ≡ LF → (2 ≤ length l → get_or l (length l - 2) 0 ≡ CR → ⊥)
+    → (length l - 1 ≡ length (text l)) × (Ending.Lf ≡ ending l)
+lf_by l h lf n = lf_text l (ends_by LF l (λ e. absurd (omega arith)) ∙ rw lf refl) (by (leb 2 (length l)) refl)
+  where
+    by : (b : Bool) → leb 2 (length l) ≡ b → ends_with CR (take (length l - 1) l) ≡ false
+    by true e = let k = leb-true 2 (length l) e in before l k ∙ ne_eqb _ _ (n k)
+    by false e =
+        let k = leb-false 2 (length l) e in
+        ends_empty CR (take (length l - 1) l) (length-take-le (length l - 1) l (omega arith) ∙ omega (arith, k))

@@ -5,7 +5,10 @@ use mathlib.Core.Path.{◌≡◌, refl, ap}
 use Prim.Native.Nat.{ℕ, suc}
 use native.Mathlib.Omega.{arith}
 use lib.Dec.{eqb}
-use lib.ListN.{length, length-map}
+use lib.ListN.{length, take, length-map}
+use Rattle.std.proofs.lemmas.Bool.Decides.{nat_tests}
+use Rattle.std.specs.Char.{to_ascii_lowercase}
+use Rattle.std.specs.Cmp.Lexicographic.{pointwise}
 use Rattle.rules.specs.Bytes.{lower}
 use Rattle.rules.specs.Lists.{equal, starts}
 use Rattle.rules.specs.Trailer.{same}
@@ -22,9 +25,13 @@ pub same_long : (a b : List ℕ) → (length a ≡ length b → ⊥) → same a 
 unfolding same
 same_long a b n = equal_long (map lower a) (map lower b) (λ e. n (simp length-map at e))
 
--- strings of one length are, where one starts with the other
-pub equal-starts : (a b : List ℕ) → length a ≡ length b → starts a b ≡ equal a b
-equal-starts [] [] e = refl
-equal-starts [] (y ∷ b) e = absurd (omega arith)
-equal-starts (x ∷ a) [] e = refl
-equal-starts (x ∷ a) (y ∷ b) e = ap (λ t. eqb x y && t) (equal-starts a b (omega arith))
+-- ---- what the library says of them
+
+pub starts_is : (p s : List ℕ) → pointwise eqb p (take (length p) s) ≡ starts p s
+starts_is [] s = refl
+starts_is (x ∷ p) [] = refl
+starts_is (x ∷ p) (y ∷ s) = ap (λ t. eqb x y && t) (starts_is p s)
+
+pub lower_is : (c : ℕ) → to_ascii_lowercase c ≡ lower c
+unfolding lower
+lower_is c = grind (arith, nat_tests)

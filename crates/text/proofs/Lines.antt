@@ -1,4 +1,4 @@
--- Lines for those who walk them by `line_len` and `line_start`: the first line and the lines behind it, the last line and the
+-- Lines for those who walk them by `line_len` and `line_start`: the first line and the lines after it, the last line and the
 -- lines before it; and a blank line is known by its bytes, with its ending or without. Assumes nothing.
 use Rattle.std.specs.Prelude.{if◌then◌else◌}
 use mathlib.Core.Bool.{Bool, true, false, not}

@@ -60,7 +60,7 @@ equal_front (suc j) (suc k) (x ∷ a) (y ∷ b) h e = by (eqb x y) refl (equal_f
     by false q r = absurd (false≢true (rw q at e))
 
 -- nothing is left of the one
-starts_all : (p s : List ℕ) → length p ≤ length s → starts p s ≡ equal (take (length p) s) p
+pub starts_all : (p s : List ℕ) → length p ≤ length s → starts p s ≡ equal (take (length p) s) p
 starts_all [] s l = refl
 starts_all (x ∷ p) [] l = absurd (omega arith)
 starts_all (x ∷ p) (y ∷ s) l = by (eqb x y) refl (starts_all p s (omega arith))

@@ -18,40 +18,21 @@ pub fn same_word(a: &[u8], b: &[u8]) -> bool
 pub fn starts_with(s: &[u8], p: &[u8]) -> bool
     ensures { result ≡ starts p.now s.now }
 {
-    if s.len() < p.len() {
-        return false;
-    }
-    let mut i = 0;
-    while i < p.len() {
-        if s[i] != p[i] {
-            return false;
-        }
-        i += 1;
-    }
-    true
+    s.starts_with(p)
 }
 
-// Whether two byte strings are the same.
+// Whether two byte strings are the same. Where one of them is written out, the compiler compares its bytes in place, with no call.
 pub fn equals(a: &[u8], b: &[u8]) -> bool
     ensures { result ≡ equal a.now b.now }
 {
-    if a.len() != b.len() {
-        return false;
-    }
-    starts_with(b, a)
+    a.len() == b.len() && a.starts_with(b)
 }
 
 // An ASCII capital as its small letter, every other byte as it is.
 pub fn to_ascii_lowercase(byte: u8) -> u8
     ensures { result ≡ lower byte }
 {
-    if byte < b'A' {
-        return byte;
-    }
-    if byte > b'Z' {
-        return byte;
-    }
-    byte + 32
+    byte.to_ascii_lowercase()
 }
 
 // Whether two byte strings are the same, ASCII case aside. Strings of one length are read to their end, so that the compiler
@@ -63,10 +44,8 @@ pub fn eq_ignore_ascii_case(a: &[u8], b: &[u8]) -> bool
         return false;
     }
     let mut alike = true;
-    let mut i = 0;
-    while i < a.len() {
-        alike = alike & (to_ascii_lowercase(a[i]) == to_ascii_lowercase(b[i]));
-        i += 1;
+    for (x, y) in a.iter().zip(b) {
+        alike &= to_ascii_lowercase(*x) == to_ascii_lowercase(*y);
     }
     alike
 }

@@ -1,7 +1,7 @@
 // Lines: where they end and start, their text, and the tests on them.
 ghost use Rattle.std.specs.Prelude.{true, false, ◌≡◌, ◌-◌, ◌≤◌, ltb, length, drop};
 ghost use Rattle.rules.specs.Bytes.{blank_byte};
-ghost use Rattle.rules.specs.Lines.{ending, ends_with, indented, lines, text};
+ghost use Rattle.rules.specs.Lines.{ending, indented, lines, text};
 ghost use Rattle.rules.specs.Lists.{all};
 ghost use Rattle.text.specs.Lines.{first_length, line_start};
 
@@ -26,11 +26,7 @@ pub fn line_len(s: &[u8]) -> usize
 pub fn has_more_lines(s: &[u8]) -> bool
     ensures { result ≡ ltb 1 (length (lines s.now)) }
 {
-    let len = s.len();
-    if len == 0 {
-        return false;
-    }
-    holds_lf(&s[..len - 1])
+    s.split_last().is_some_and(|(_, before)| holds_lf(before))
 }
 
 // Where the line that ends at `at` starts: the byte before `at` may be that line's own LF.
@@ -38,25 +34,11 @@ pub fn line_start(s: &[u8], at: usize) -> usize
     requires { at ≤ length s.now }
     ensures { result ≡ line_start s.now at }
 {
-    if at == 0 {
-        return 0;
-    }
-    behind_lf(s, at - 1)
+    behind_lf(s, at.saturating_sub(1))
 }
 
-// Whether the last byte of `line` is `byte`.
-fn ends_with(line: &[u8], byte: u8) -> bool
-    ensures { result ≡ ends_with byte line.now }
-{
-    let n = line.len();
-    if n == 0 {
-        return false;
-    }
-    line[n - 1] == byte
-}
-
-// Of `trim_line_ending`: the length of a line's text, and the ending behind it.
-#[derive(Drop)]
+// Of `trim_line_ending`: the length of a line's text, and the ending after it.
+#[derive(Clone, Copy)]
 pub struct LineText {
     pub len: usize,
     pub ending: Ending,
@@ -66,28 +48,24 @@ pub struct LineText {
 pub fn trim_line_ending(line: &[u8]) -> LineText
     ensures { (result.len ≡ length (text line.now)) × (result.ending ≡ ending line.now) }
 {
-    let n = line.len();
-    if ends_with(line, b'\n') {
-        if ends_with(&line[..n - 1], b'\r') {
-            return LineText {
-                len: n - 2,
-                ending: Ending::CrLf,
-            };
-        }
-        return LineText {
-            len: n - 1,
+    let len = line.len();
+    match line {
+        [.., b'\r', b'\n'] => LineText {
+            len: len - 2,
+            ending: Ending::CrLf,
+        },
+        [.., b'\n'] => LineText {
+            len: len - 1,
             ending: Ending::Lf,
-        };
-    }
-    if ends_with(line, b'\r') {
-        return LineText {
-            len: n - 1,
+        },
+        [.., b'\r'] => LineText {
+            len: len - 1,
             ending: Ending::Cr,
-        };
-    }
-    LineText {
-        len: n,
-        ending: Ending::None,
+        },
+        _ => LineText {
+            len,
+            ending: Ending::None,
+        },
     }
 }
 
@@ -95,21 +73,14 @@ pub fn trim_line_ending(line: &[u8]) -> LineText
 pub fn is_ascii_whitespace(byte: u8) -> bool
     ensures { result ≡ blank_byte byte }
 {
-    byte == b' ' || byte == b'\t' || byte == b'\n' || byte == b'\x0C' || byte == b'\r'
+    byte.is_ascii_whitespace()
 }
 
 // Whether a line, or its text, is all ASCII blank.
 pub fn is_blank_line(line: &[u8]) -> bool
     ensures { result ≡ all blank_byte line.now }
 {
-    let mut i = 0;
-    while i < line.len() {
-        if !is_ascii_whitespace(line[i]) {
-            return false;
-        }
-        i += 1;
-    }
-    true
+    line.iter().all(|byte| is_ascii_whitespace(*byte))
 }
 
 // Whether a run is all ASCII blank. It is read to its end, so that the compiler reads all of it at once.
@@ -117,41 +88,30 @@ fn is_blank_run(run: &[u8]) -> bool
     ensures { result ≡ all blank_byte run.now }
 {
     let mut blank = true;
-    let mut i = 0;
-    while i < run.len() {
-        let byte = run[i];
-        blank = blank
-            & ((byte == b' ')
-                | (byte == b'\t')
-                | (byte == b'\n')
-                | (byte == b'\x0C')
-                | (byte == b'\r'));
-        i += 1;
+    for byte in run {
+        blank &= is_ascii_whitespace(*byte);
     }
     blank
 }
 
 // Where the blank runs at the end start.
 pub fn before_blanks(s: &[u8]) -> usize
-    ensures upper_bound { (result ≤ length s.now) × (all blank_byte (drop result s.now) ≡ true) }
-    ensures s_value { 64 ≤ result → all blank_byte (drop (result - 64) s.now) ≡ false }
+    ensures blank_after { (result ≤ length s.now) × (all blank_byte (drop result s.now) ≡ true) }
+    ensures stops_at_text { 64 ≤ result → all blank_byte (drop (result - 64) s.now) ≡ false }
 {
-    let mut i = s.len();
-    while i >= BLANK_RUN {
-        if !is_blank_run(&s[i - BLANK_RUN..i]) {
-            return i;
+    let mut start = s.len();
+    for run in s.rchunks_exact(BLANK_RUN) {
+        if !is_blank_run(run) {
+            return start;
         }
-        i -= BLANK_RUN;
+        start -= BLANK_RUN;
     }
-    i
+    start
 }
 
 // Whether a line begins with an ASCII blank.
 pub fn is_indented(line: &[u8]) -> bool
     ensures { result ≡ indented line.now }
 {
-    if line.len() == 0 {
-        return false;
-    }
-    is_ascii_whitespace(line[0])
+    line.first().is_some_and(|byte| is_ascii_whitespace(*byte))
 }

@@ -1,13 +1,13 @@
 -- Runs in which no LF is followed by LF or CR: all but their last two bytes are in the title. Assumes nothing.
-use mathlib.Core.Bool.{Bool, true, false, or_assoc, or-false, ◌||◌}
+use mathlib.Core.Bool.{Bool, true, false, or-false, ◌||◌}
 use mathlib.Core.List.{List, [], ◌∷◌}
 use mathlib.Core.Path.{◌≡◌, refl, sym, ap, ◌∙◌}
-use Prim.Native.Nat.{ℕ, zero, suc, ◌+◌, ◌-◌, ◌≤◌, ◌<◌}
+use Prim.Native.Nat.{ℕ, zero, suc, ◌+◌, ◌≤◌, ◌<◌}
 use native.Mathlib.Omega.{arith}
 use borrow.Author.Tests.{eqb-true, eqb-false, ne_eqb}
 use lib.Dec.{eqb}
 use lib.ListN.{length, take, drop, get_or, length-drop}
-use lib.Seq.{drop-cons, drop-drop}
+use lib.Seq.{drop-drop}
 use Rattle.rules.specs.Bytes.{CR, LF}
 use Rattle.rules.specs.Lists.{starts}
 use Rattle.rules.specs.Title.{line_end, two_ends}
@@ -16,25 +16,14 @@ use Rattle.rules.proofs.White.{starts_is}
 use Rattle.title.specs.Runs.{InTitle, any_meets, meets}
 use Rattle.title.proofs.ByLines.{crlf_front, goes_on, lf_front, no_front, no_two, two_front}
 
--- ---- a run as it is read: the byte at `i` and the one before it, then those behind; none at its end
+-- ---- what is left of a run at its end: no LF with LF or CR after it
 
-pub read_on : (s : List ℕ) (i : ℕ) (found : Bool) → 0 < i → i < length s
-    → (found || any_meets (drop (i - 1) s)) ≡ (found || meets (get_or s (i - 1) 0) (get_or s i 0) || any_meets (drop (i + 1 - 1) s))
-read_on s zero found h k = absurd (omega arith)
-read_on s (suc i) found h k =
-    let before : suc i - 1 ≡ i = omega arith in
-    let behind : suc i + 1 - 1 ≡ suc i = omega arith in
-    rw (before, behind, drop-cons s i 0 (omega arith), drop-cons s (suc i) 0 k, or_assoc)
+pub read_over : (s : List ℕ) (found : Bool) → length s < 2 → (found || any_meets s) ≡ found
+read_over [] found h = or-false found
+read_over (c ∷ []) found h = or-false found
+read_over (c ∷ d ∷ s) found h = absurd (omega arith)
 
-pub read_over : (s : List ℕ) (i : ℕ) (found : Bool) → 0 < i → length s ≤ i → (found || any_meets (drop (i - 1) s)) ≡ found
-read_over s i found h k = rw (alone (drop (i - 1) s) (omega (arith, length-drop (i - 1) s))) (or-false found)
-  where
-    alone : (t : List ℕ) → length t ≤ 1 → any_meets t ≡ false
-    alone [] n = refl
-    alone (c ∷ []) n = refl
-    alone (c ∷ d ∷ t) n = absurd (omega arith)
-
--- ---- two line ends begin at a byte only if it or the next one is an LF with LF or CR behind it
+-- ---- two line ends begin at a byte only if it or the next one is an LF with LF or CR after it
 
 no_end : (c d : ℕ) (s : List ℕ) → c ≡ LF → meets c d ≡ false → line_end (d ∷ s) ≡ 0
 no_end c d s h e =
@@ -54,7 +43,7 @@ no_ends c d e s p q = by (starts (CR ∷ LF ∷ []) (c ∷ d ∷ e ∷ s)) refl 
         rw lf (two_front (LF ∷ d ∷ e ∷ s) 0 0 (lf_front (d ∷ e ∷ s)) (no_end c d (e ∷ s) lf p))
     by false x false y = no_two (c ∷ d ∷ e ∷ s) (no_front c (d ∷ e ∷ s) (eqb-false c LF y) x)
 
--- ---- bytes in the title: a run but for its last two, and more of what is behind
+-- ---- bytes in the title: a run but for its last two, and more of what comes after
 
 pub run_passed : (n : ℕ) (s : List ℕ) → suc (suc n) ≤ length s → any_meets (take (suc (suc n)) s) ≡ false → InTitle s n
 run_passed zero s h e = omega arith

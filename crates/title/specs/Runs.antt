@@ -3,7 +3,7 @@ use Rattle.std.specs.Prelude.{Bool, false, ◌&&◌, ◌||◌, List, [], ◌∷�
 use Rattle.rules.specs.Bytes.{CR, LF}
 use Rattle.rules.specs.Title.{body_start, title_end}
 
--- `c` ends a line, and a line end may begin with `d`, the byte behind it
+-- `c` ends a line, and a line end may begin with `d`, the byte after it
 abbrev pub meets : ℕ → ℕ → Bool
 meets c d = eqb c LF && (eqb d LF || eqb d CR)
 

@@ -1,4 +1,4 @@
-// Where the title of a message ends and its body starts: what the loop of the original's decode.rs finds, by lines. Behind a line, whole
+// Where the title of a message ends and its body starts: what the loop of the original's decode.rs finds, by lines. After a line, whole
 // runs in which no LF is followed by the first byte of a line end are passed over, however many lines they hold.
 #![tactic(auto)]
 
@@ -6,11 +6,10 @@ ghost use Rattle.std.specs.Prelude.{◌≡◌};
 ghost use Rattle.rules.specs.Title.{body_start, line_end, title_end};
 ghost use Rattle.title.specs.Runs.{InTitle, any_meets};
 
-use text::fixed::starts_with;
 use text::line::{line_len, trim_line_ending};
 
 // Where the title ends and where the body starts; both at the end of the message where all is title.
-#[derive(Drop)]
+#[derive(Clone, Copy)]
 pub struct Places {
     pub title_end: usize,
     pub body_start: usize,
@@ -19,7 +18,7 @@ pub struct Places {
 // How many bytes are read as one run.
 const READ: usize = 17;
 
-// How many bytes of a run without two line ends are passed: not its last two, which may be a CR LF with the second line end behind the run.
+// How many bytes of a run without two line ends are passed: not its last two, which may be a CR LF with the second line end after the run.
 const PASSED: usize = 15;
 
 // The title ends at the first place where two line ends follow each other; the body is what comes after them. The second
@@ -50,10 +49,10 @@ pub fn title_and_body(message: &[u8]) -> Places
 fn newline_len(input: &[u8]) -> usize
     ensures { result ≡ line_end input.now }
 {
-    if starts_with(input, b"\r\n") {
+    if input.starts_with(b"\r\n") {
         return 2;
     }
-    if starts_with(input, b"\n") {
+    if input.starts_with(b"\n") {
         return 1;
     }
     0
@@ -65,10 +64,8 @@ fn has_two_ends(run: &[u8]) -> bool
     ensures { result ≡ any_meets run.now }
 {
     let mut found = false;
-    let mut i = 1;
-    while i < run.len() {
-        found = found | ((run[i - 1] == b'\n') & ((run[i] == b'\n') | (run[i] == b'\r')));
-        i += 1;
+    for pair in run.windows(2) {
+        found |= (pair[0] == b'\n') & ((pair[1] == b'\n') | (pair[1] == b'\r'));
     }
     found
 }

@@ -1,6 +1,6 @@
 -- What `parse_trailer_line` answers: of a line, by what stands where its token and the gap behind it end; and of all that
 -- follows a line's start as of the line, since no LF stands up to the colon (parsed_front). Assumes nothing.
-use Rattle.std.specs.Prelude.{if◌then◌else◌}
+use Rattle.std.specs.Prelude.{None, Some, is_some, if◌then◌else◌}
 use mathlib.Core.Bool.{Bool, true, false}
 use mathlib.Core.List.{List, [], ◌∷◌, ◌++◌, nil≢cons}
 use mathlib.Core.Path.{◌≡◌, refl, sym, ◌∙◌}
@@ -15,7 +15,7 @@ use Rattle.rules.specs.Lines.{Line, LinesOf, none, last, line, lines}
 use Rattle.rules.specs.Lists.{first, past, run}
 use Rattle.rules.specs.Trailer.{named, coloned, trailer_line, token_in, gap_in}
 use Rattle.rules.proofs.Lines.{lines_of}
-use Rattle.trailer.specs.Line.{parsed}
+use Rattle.trailer.specs.Line.{trailer_line_at, parsed}
 use Rattle.trailer.specs.declared.line.TrailerLine.{TrailerLine}
 use Rattle.rules.proofs.Lists.{run_within}
 use Rattle.trailer.proofs.Runs.{behind_run, first_run}
@@ -26,16 +26,25 @@ pub token_within : (l : Line) → length (token_in l) ≤ length l
 unfolding token_in
 token_within l = run_within token_byte l
 
-pub no_token : (l : Line) → length (token_in l) ≡ 0 → parsed l ≡ TrailerLine.NoTrailer
+pub no_token : (l : Line) → length (token_in l) ≡ 0 → parsed l ≡ None
 unfolding parsed trailer_line named token_in
 no_token l e = rw (first_run token_byte l, eq-eqb _ 0 e)
+
+-- whether there is one
+pub parsed_told : (l : Line) → is_some (parsed l) ≡ trailer_line l
+unfolding parsed
+parsed_told l = by (trailer_line l) _
+  where
+    by : (b : Bool) (t : TrailerLine) → is_some (if b then Some t else None) ≡ b
+    by true t = refl
+    by false t = refl
 
 -- `n` is the token's end, and `at` the end of the gap behind it
 module _ (l : Line) (n at : ℕ) (t : n ≡ length (token_in l)) (e : at ≡ n + length (run gap_byte (drop n l))) where
   pub gap_within : at ≤ length l
   gap_within = omega (arith, token_within l, run_within gap_byte (drop n l), length-drop n l)
 
-  by_colon : (n ≡ 0 → ⊥) → parsed l ≡ (if first (eqb colon) (drop at l) then TrailerLine.At n (at + 1) else TrailerLine.NoTrailer)
+  by_colon : (n ≡ 0 → ⊥) → parsed l ≡ (if first (eqb colon) (drop at l) then Some (trailer_line_at n (at + 1)) else None)
   unfolding parsed trailer_line named coloned token_in gap_in
   by_colon some =
       let token : drop n l ≡ past token_byte l = rw t (behind_run token_byte l) in
@@ -44,15 +53,15 @@ module _ (l : Line) (n at : ℕ) (t : n ≡ length (token_in l)) (e : at ≡ n +
       rw (gap, ← drop-drop (length (gap_in l)) n l, token) (behind_run gap_byte (past token_byte l)) in
       rw (first_run token_byte l, ← t, ne_eqb n 0 some, behind, gap)
 
-  pub ends_there : (n ≡ 0 → ⊥) → at ≡ length l → parsed l ≡ TrailerLine.NoTrailer
+  pub ends_there : (n ≡ 0 → ⊥) → at ≡ length l → parsed l ≡ None
   ends_there some h = let past_end : length l ≤ at = omega arith in by_colon some ∙ rw (drop_of_length-le l past_end)
 
-  pub other_there : (n ≡ 0 → ⊥) → (at ≡ length l → ⊥) → (get_or l at 0 ≡ colon → ⊥) → parsed l ≡ TrailerLine.NoTrailer
+  pub other_there : (n ≡ 0 → ⊥) → (at ≡ length l → ⊥) → (get_or l at 0 ≡ colon → ⊥) → parsed l ≡ None
   other_there some more other =
       let inside : at < length l = omega (arith, gap_within) in
       by_colon some ∙ rw (drop-cons l at 0, ne_eqb colon (get_or l at 0) (λ q. other (sym q)))
 
-  pub colon_there : (n ≡ 0 → ⊥) → (at ≡ length l → ⊥) → get_or l at 0 ≡ colon → parsed l ≡ TrailerLine.At n (at + 1)
+  pub colon_there : (n ≡ 0 → ⊥) → (at ≡ length l → ⊥) → get_or l at 0 ≡ colon → parsed l ≡ Some (trailer_line_at n (at + 1))
   colon_there some more q =
       let inside : at < length l = omega (arith, gap_within) in
       by_colon some ∙ rw (drop-cons l at 0, eq-eqb colon (get_or l at 0) (sym q))

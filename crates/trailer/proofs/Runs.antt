@@ -1,30 +1,29 @@
--- The longest run of bytes that pass a test, found byte by byte. Assumes nothing.
-use Rattle.std.specs.Prelude.{if◌then◌else◌}
+-- The longest run of bytes that pass a test. Assumes nothing.
+use Rattle.std.specs.Prelude.{cond, if◌then◌else◌}
+use Rattle.std.specs.List.{prefix_len}
 use mathlib.Core.Bool.{Bool, true, false, not}
 use mathlib.Core.List.{List, [], ◌∷◌}
 use mathlib.Core.Path.{◌≡◌, refl, sym, ap, ◌∙◌}
-use Prim.Native.Nat.{ℕ, suc, ◌+◌, ◌≤◌, ◌<◌}
-use native.Mathlib.Numerals.{add-one}
+use Prim.Native.Nat.{ℕ, suc, ◌+◌}
 use native.Mathlib.Omega.{arith}
 use borrow.Author.Tests.{ne_eqb}
 use lib.Dec.{eqb}
-use lib.ListN.{length, drop, get_or, drop_of_length-le}
-use lib.Seq.{drop-cons, drop-append_seam}
+use lib.ListN.{length, drop}
+use lib.Seq.{drop-append_seam}
 use Rattle.rules.specs.Lists.{first, past, run}
 use Rattle.rules.proofs.Lists.{run_past}
 
-module _ (p : ℕ → Bool) (s : List ℕ) where
-  -- the run goes on at a byte that passes, and ends before one that does not, or where the bytes end
-  pub run_step : (i : ℕ) (b : Bool) → i < length s → b ≡ p (get_or s i 0) →
-      length (run p (drop i s)) ≡ length (if b then get_or s i 0 ∷ run p (drop (i + 1) s) else [])
-  run_step i b h e = rw (add-one i, drop-cons s i 0, e)
+-- how long it is, as std counts it
+pub run_prefix : (p : ℕ → Bool) (s : List ℕ) → prefix_len p s ≡ length (run p s)
+run_prefix p [] = refl
+run_prefix p (c ∷ s) = elim (p c) as (λ b. cond b (1 + prefix_len p s) 0 ≡ length (if b then c ∷ run p s else [])) [
+  | true ↦ omega (arith, run_prefix p s)
+  | false ↦ refl
+]
 
-  pub run_over : (i : ℕ) → length s ≤ i → length (run p (drop i s)) ≡ 0
-  run_over i h = rw (drop_of_length-le s h)
-
-  -- what is behind the run
-  pub behind_run : drop (length (run p s)) s ≡ past p s
-  behind_run = ap (drop (length (run p s))) (sym (run_past p s)) ∙ drop-append_seam (run p s) (past p s)
+-- what is behind it
+pub behind_run : (p : ℕ → Bool) (s : List ℕ) → drop (length (run p s)) s ≡ past p s
+behind_run p s = ap (drop (length (run p s))) (sym (run_past p s)) ∙ drop-append_seam (run p s) (past p s)
 
 -- there is one where the first byte passes
 pub first_run : (p : ℕ → Bool) (s : List ℕ) → first p s ≡ not (eqb (length (run p s)) 0)

@@ -1,5 +1,6 @@
 -- The trailer walk by `trailer_at_start`: from a place on, it begins with the trailer that stands there, or it is the walk from the
 -- next line on. Assumes nothing.
+use Rattle.std.specs.Prelude.{Option, None, Some}
 use mathlib.Core.Bool.{Bool, true, false}
 use mathlib.Core.List.{List, [], ◌∷◌}
 use mathlib.Core.Path.{◌≡◌, refl, ◌∙◌}
@@ -18,7 +19,6 @@ use Rattle.rules.proofs.Parts.{rest}
 use Rattle.trailer.specs.Line.{at_start}
 use Rattle.trailer.specs.Walk.{next_of}
 use Rattle.trailer.specs.declared.line.TrailerAtStart.{TrailerAtStart}
-use Rattle.trailer.specs.declared.walk.NextTrailer.{NextTrailer}
 use Rattle.trailer.proofs.AtStart.{start_within}
 use Rattle.text.proofs.ByLines.{line_then, line_length}
 
@@ -32,9 +32,9 @@ places_from at token value first len = record {
 }
 
 -- a trailer at `at`, by its places counted from its start; another answer where none is there
-abbrev next_at : ℕ → TrailerAtStart → NextTrailer → NextTrailer
-next_at at (TrailerAtStart.Trailer token value first len) other = NextTrailer.Trailer (places_from at token value first len)
-next_at at TrailerAtStart.NoTrailer other = other
+abbrev next_at : ℕ → Option TrailerAtStart → Option Places → Option Places
+next_at at (Some t) other = Some (places_from at t.token_end t.value_start t.first t.len)
+next_at at None other = other
 
 next_by : (at : ℕ) (l : Line) (ls : List Line) → next_of (walk at (l ∷ ls)) ≡ next_at at (at_start (l ∷ ls)) (next_of (walk (at + length l) ls))
 unfolding at_start
@@ -56,20 +56,20 @@ module _ (body : List ℕ) (at : ℕ) (h : at < length body) where
       let ls : List Line = lines (drop (at + n) body) in
       rw (rest body at, line_then body at n h e) (next_by at l ls ∙ rw (line_length body at n h e))
 
-  pub next_skips : (n : ℕ) → at_start (lines (take (length body - at) (drop at body))) ≡ TrailerAtStart.NoTrailer
+  pub next_skips : (n : ℕ) → at_start (lines (take (length body - at) (drop at body))) ≡ None
       → n ≡ first_length (lines (take (length body - at) (drop at body))) → next_of (walk_from body at) ≡ next_of (walk_from body (at + n))
   next_skips n q e = next_there n e ∙ rw q
 
-  module _ {token value first len : ℕ} (q : at_start (lines (take (length body - at) (drop at body))) ≡ TrailerAtStart.Trailer token value first len) where
-    pub next_found : next_of (walk_from body at) ≡ NextTrailer.Trailer (places_from at token value first len)
+  module _ {t : TrailerAtStart} (q : at_start (lines (take (length body - at) (drop at body))) ≡ Some t) where
+    pub next_found : next_of (walk_from body at) ≡ Some (places_from at t.token_end t.value_start t.first t.len)
     next_found = next_there (first_length (lines (take (length body - at) (drop at body)))) refl ∙ rw q
 
-    pub found_within : (token < value) × (value ≤ first) × (first ≤ len) × (at + len ≤ length body)
+    pub found_within : (t.token_end < t.value_start) × (t.value_start ≤ t.first) × (t.first ≤ t.len) × (at + t.len ≤ length body)
     found_within =
         let (x, y, w, z) = rw q at (start_within (take (length body - at) (drop at body))) in
         (x, y, w, omega (arith, z, length-take-le (length body - at) (drop at body) (omega (arith, length-drop at body))))
 
-pub next_ends : (body : List ℕ) (at : ℕ) → length body ≤ at → next_of (walk_from body at) ≡ NextTrailer.End
+pub next_ends : (body : List ℕ) (at : ℕ) → length body ≤ at → next_of (walk_from body at) ≡ None
 next_ends body at h = rw (walk_ends body at h)
 
 -- ---- what a caller learns
@@ -80,10 +80,10 @@ pub record First (ts : List Trailer) (at : Places) : Type 0 where
   pub walked : ts ≡ found ∷ later
   pub places : at ≡ places_of found
 
-pub first_is : (ts : List Trailer) {at : Places} → next_of ts ≡ NextTrailer.Trailer at → First ts at
+pub first_is : (ts : List Trailer) {at : Places} → next_of ts ≡ Some at → First ts at
 first_is [] e = let z : ◌≡◌ {A = ℕ} 0 1 = cc in absurd (omega arith)
 first_is (t ∷ ts) e = record { found = t; later = ts; walked = refl; places = cc }
 
-pub none_is : (ts : List Trailer) → next_of ts ≡ NextTrailer.End → ts ≡ []
+pub none_is : (ts : List Trailer) → next_of ts ≡ None → ts ≡ []
 none_is [] e = refl
 none_is (t ∷ ts) e = cc

@@ -1,6 +1,7 @@
 // A trailer line, and the trailer that begins at a line's start.
-ghost use Rattle.std.specs.Prelude.{List, ◌≡◌, ℕ, ◌+◌, ◌≤◌, length, drop};
-ghost use Rattle.rules.specs.Bytes.{gap_byte, token_byte, within};
+ghost use Rattle.std.specs.Prelude.{List, ◌≡◌, ℕ, length};
+ghost use Rattle.std.specs.List.{prefix_len};
+ghost use Rattle.rules.specs.Bytes.{gap_byte, token_byte};
 ghost use Rattle.rules.specs.Lines.{folds, lines};
 ghost use Rattle.rules.specs.Lists.{join, run};
 ghost use Rattle.rules.specs.Trailer.{token_in};
@@ -13,52 +14,32 @@ use word::{before_flag, word};
 // How many bytes a word has.
 const WORD: usize = 8;
 
-// Of `parse_trailer_line`: where the token ends, and where the value starts, right behind the colon.
-#[derive(Drop)]
-pub enum TrailerLine {
-    At {
-        token_end: usize,
-        value_start: usize,
-    },
-    NoTrailer,
+// A trailer line: where its token ends, and where its value starts, right after the colon.
+#[derive(Clone, Copy)]
+pub struct TrailerLine {
+    pub token_end: usize,
+    pub value_start: usize,
 }
 
-// Of `trailer_at_start`: the same of the trailer's first line, that line's length, and the trailer's.
-#[derive(Drop)]
-pub enum TrailerAtStart {
-    Trailer {
-        token_end: usize,
-        value_start: usize,
-        first: usize,
-        len: usize,
-    },
-    NoTrailer,
-}
-
-// Whether a byte lies from `first` to `last`.
-fn is_within(byte: u8, first: u8, last: u8) -> bool
-    ensures { result ≡ within first last byte }
-{
-    first <= byte && byte <= last
+// The trailer at a line's start: the same of its first line, that line's length, and the trailer's.
+#[derive(Clone, Copy)]
+pub struct TrailerAtStart {
+    pub token_end: usize,
+    pub value_start: usize,
+    pub first: usize,
+    pub len: usize,
 }
 
 // Whether a byte may stand in a token: an ASCII letter, a digit or a hyphen.
+#[tactic(auto, unfolding(rules::specs::Bytes::token_byte))]
 fn is_token_byte(byte: u8) -> bool
     ensures { result ≡ token_byte byte }
 {
-    if is_within(byte, b'A', b'Z') {
-        return true;
-    }
-    if is_within(byte, b'a', b'z') {
-        return true;
-    }
-    if is_within(byte, b'0', b'9') {
-        return true;
-    }
-    byte == b'-'
+    byte.is_ascii_alphanumeric() || byte == b'-'
 }
 
 // Whether a byte may stand between the token and the colon: a space or a tab.
+#[tactic(auto, unfolding(rules::specs::Bytes::gap_byte))]
 fn is_gap_byte(byte: u8) -> bool
     ensures { result ≡ gap_byte byte }
 {
@@ -67,20 +48,13 @@ fn is_gap_byte(byte: u8) -> bool
 
 // How many bytes at the front stand in a token, byte by byte.
 fn short_token_len(part: &[u8]) -> usize
-    ensures { result ≡ length (token_in part.now) }
+    ensures { result ≡ prefix_len token_byte part.now }
 {
-    let mut i = 0;
-    while i < part.len() {
-        if !is_token_byte(part[i]) {
-            return i;
-        }
-        i += 1;
-    }
-    i
+    part.iter().take_while(|byte| is_token_byte(**byte)).count()
 }
 
 // The flags of a word's bytes that stand in no token. Each byte, without its highest bit, carries into it in two sums: in one from the first byte
-// of a range on, in the other from the one behind its last. In the range only one of them carries.
+// of a range on, in the other from the one after its last. In the range only one of them carries.
 fn token_flags(word: u64) -> u64
     ensures { (s : List ℕ) → length s ≡ 8 → Bytes s → word ≡ packed s → result ≡ each (flag token_byte) s }
 {
@@ -115,41 +89,29 @@ pub fn token_end(line: &[u8]) -> usize
     i + short_token_len(&line[i..])
 }
 
-// Where the spaces and tabs from `at` on end: a trailer line has its colon there.
-fn find_separator(line: &[u8], at: usize) -> usize
-    requires { at ≤ length line.now }
-    ensures { result ≡ at + length (run gap_byte (drop at line.now)) }
+// How many spaces and tabs stand at the front: after its token and these a trailer line has its colon.
+fn gap_len(part: &[u8]) -> usize
+    ensures { result ≡ prefix_len gap_byte part.now }
 {
-    let mut i = at;
-    while i < line.len() {
-        if !is_gap_byte(line[i]) {
-            return i;
-        }
-        i += 1;
-    }
-    i
+    part.iter().take_while(|byte| is_gap_byte(**byte)).count()
 }
 
 // Where the token of a trailer line ends, and where its value starts.
-pub fn parse_trailer_line(line: &[u8]) -> TrailerLine
+pub fn parse_trailer_line(line: &[u8]) -> Option<TrailerLine>
     ensures { result ≡ parsed line.now }
 {
     let token_end = token_end(line);
     if token_end == 0 {
-        return TrailerLine::NoTrailer;
+        return None;
     }
-    let separator = find_separator(line, token_end);
-    if separator == line.len() {
-        return TrailerLine::NoTrailer;
+    let separator = token_end + gap_len(&line[token_end..]);
+    if separator == line.len() || line[separator] != b':' {
+        return None;
     }
-    if line[separator] != b':' {
-        return TrailerLine::NoTrailer;
-    }
-    let value_start = separator + 1;
-    TrailerLine::At {
+    Some(TrailerLine {
         token_end,
-        value_start,
-    }
+        value_start: separator + 1,
+    })
 }
 
 // The length of the indented, non-blank lines at the front of `rest`.
@@ -169,22 +131,16 @@ fn folds_len(rest: &[u8]) -> usize
 
 // The trailer whose first line is the first of `cursor`: that line with every indented, non-blank line directly after it. `&cursor[0..]` is all of
 // it, as a slice of this function's own: one handed on as it came would be copied, which waits for where it was stored.
-pub fn trailer_at_start(cursor: &[u8]) -> TrailerAtStart
+pub fn trailer_at_start(cursor: &[u8]) -> Option<TrailerAtStart>
     ensures { result ≡ at_start (lines cursor.now) }
 {
-    let TrailerLine::At {
-        token_end,
-        value_start,
-    } = parse_trailer_line(&cursor[0..])
-    else {
-        return TrailerAtStart::NoTrailer;
-    };
+    let line = parse_trailer_line(&cursor[0..])?;
     let first = line_len(cursor);
     let len = first + folds_len(&cursor[first..]);
-    TrailerAtStart::Trailer {
-        token_end,
-        value_start,
+    Some(TrailerAtStart {
+        token_end: line.token_end,
+        value_start: line.value_start,
         first,
         len,
-    }
+    })
 }

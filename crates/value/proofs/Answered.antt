@@ -1,4 +1,5 @@
 -- What is answered of a raw value, by whether it has more than one line. Assumes nothing.
+use Rattle.std.specs.Prelude.{Ok}
 use mathlib.Core.Bool.{true, false}
 use mathlib.Core.List.{List}
 use mathlib.Core.Path.{◌≡◌}
@@ -11,7 +12,6 @@ use Rattle.rules.specs.Record.{fitted, part, written_found, written_of}
 use Rattle.rules.specs.Trailer.{unfolded, value_is_written}
 use Rattle.rules.specs.White.{trim, trim_at}
 use Rattle.rules.specs.declared.Value.{Value}
-use Rattle.rules.specs.declared.ValueFound.{ValueFound}
 use Rattle.value.specs.Value.{value_found}
 
 module _ (at : ℕ) (raw : List ℕ) where
@@ -24,7 +24,7 @@ module _ (at : ℕ) (raw : List ℕ) where
 
   -- with at most one line it is a part of the input, and nothing is written
   pub value_part : value_is_written raw ≡ false → (room : ℕ)
-      → ValueFound.At (Value.InInput (part (at + trim_at raw) (at + (trim_at raw + length (trim raw))))) ≡ value_found at raw room
+      → Ok (Value.InInput (part (at + trim_at raw) (at + (trim_at raw + length (trim raw))))) ≡ value_found at raw room
   value_part q room = rw (q, le-ltb room 0 (omega arith), add_assoc)
 
   pub buffer_part : value_is_written raw ≡ false → (out : List ℕ) → out ≡ fitted (written_of raw) out

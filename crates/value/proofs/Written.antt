@@ -1,42 +1,39 @@
--- A buffer whose front holds what the lines before a place make, and whose bytes behind that are kept. Assumes nothing.
-use mathlib.Core.List.{List, ◌++◌}
+-- A buffer whose front holds what the lines passed so far make, and whose bytes behind that are kept. Assumes nothing.
+use mathlib.Core.List.{List, [], ◌++◌}
 use mathlib.Core.Path.{◌≡◌, refl, sym, ap, ◌∙◌}
-use Prim.Native.Nat.{ℕ, ◌+◌, ◌-◌, ◌≤◌, ◌<◌}
+use Prim.Native.Nat.{ℕ, ◌+◌, ◌-◌, ◌≤◌}
 use native.Mathlib.Omega.{arith}
 use lib.ListN.{length, take, drop, length-append, length-drop, take-append-drop}
 use lib.Seq.{drop_at, drop-drop, length-take-le, take_at}
-use Rattle.rules.specs.Lines.{lines}
 use Rattle.rules.specs.Trailer.{unfolded}
-use Rattle.rules.specs.White.{trim}
-use Rattle.text.specs.Lines.{first_length}
 use Rattle.value.specs.Joined.{joined_length}
+use Rattle.value.specs.Value.{NextLine}
 use Rattle.value.proofs.Joined.{joined, joined_longer, length-joined}
 use Rattle.value.proofs.Unfolding.{Half, half_start, half_within, half_step, half_end}
 
--- `d` is the buffer now, `d₀` as it was lent
-pub record Written (s : List ℕ) (d₀ : List ℕ) (at : ℕ) (d : List ℕ) (len : ℕ) : Type 0 where
+-- `d` is the buffer now, `d₀` as it was lent, and `left` what is still to be unfolded
+pub record Written (s d₀ left d : List ℕ) (len : ℕ) : Type 0 where
   pub fits : len ≤ length d₀
   pub size : length d ≡ length d₀
   pub kept : drop len d ≡ drop len d₀
-  pub half : Half s at (take len d)
+  pub half : Half s left (take len d)
 
-pub written_start : (s d : List ℕ) → Written s d 0 d 0
+pub written_start : (s d : List ℕ) → Written s d s d 0
 written_start s d = record { fits = omega arith; size = refl; kept = refl; half = half_start s }
 
-module _ {s d₀ : List ℕ} {at : ℕ} {d : List ℕ} {len : ℕ} (w : Written s d₀ at d len) where
+module _ {s d₀ left d : List ℕ} {len : ℕ} (w : Written s d₀ left d len) where
   held : length (take len d) ≡ len
   held = length-take-le len d (omega (arith, w.fits, w.size))
 
-  pub written_end : length s ≤ at → (len ≡ length (unfolded s)) × (d ≡ unfolded s ++ drop (length (unfolded s)) d₀)
+  pub written_end : left ≡ [] → (len ≡ length (unfolded s)) × (d ≡ unfolded s ++ drop (length (unfolded s)) d₀)
   written_end h =
       let front : take len d ≡ unfolded s = half_end w.half h in
       let size : len ≡ length (unfolded s) = sym held ∙ ap length front in
       (size, sym (take-append-drop len d) ∙ rw (front, w.kept, size))
 
-  module _ (n : ℕ) {piece : List ℕ} (h : at < length s) (e : n ≡ first_length (lines (take (length s - at) (drop at s))))
-      (p : piece ≡ trim (take (at + n - at) (drop at s))) (room : length (unfolded s) ≤ length d₀) where
-    next_half : Half s (at + n) (joined (take len d) piece)
-    next_half = half_step w.half n h e p
+  module _ {piece after : List ℕ} (next : NextLine left piece after) (room : length (unfolded s) ≤ length d₀) where
+    next_half : Half s after (joined (take len d) piece)
+    next_half = half_step w.half next
 
     next_length : length (joined (take len d) piece) ≡ joined_length len (length piece)
     next_length = length-joined (take len d) piece ∙ rw held
@@ -45,7 +42,7 @@ module _ {s d₀ : List ℕ} {at : ℕ} {d : List ℕ} {len : ℕ} (w : Written 
     next_fits = omega (arith, next_length, half_within next_half, w.size)
 
     pub written_step : (end : ℕ) (d' : List ℕ) → end ≡ joined_length len (length piece) → d' ≡ joined (take len d) piece ++ drop end d
-        → Written s d₀ (at + n) d' end
+        → Written s d₀ after d' end
     written_step end d' q r =
         let front : length (joined (take len d) piece) ≡ end = next_length ∙ sym q in
         let longer : len ≤ end = omega (arith, held, front, joined_longer (take len d) piece) in

@@ -1,15 +1,16 @@
 // A trailer's value: the original's `unfold_value`, with its length found before it is written, and the value's place.
 #![tactic(auto)]
 
-ghost use Rattle.std.specs.Prelude.{[], ◌∷◌, ◌++◌, ◌≡◌, ◌+◌, ◌-◌, ◌≤◌, ◌<◌, ◌^◌, ltb, length, take, drop};
+ghost use Rattle.std.specs.Iterator.{at_most};
+ghost use Rattle.std.specs.Prelude.{MatchOption, [], ◌∷◌, ◌++◌, ◌≡◌, ◌+◌, ◌-◌, ◌≤◌, ◌<◌, ◌^◌, ltb, length, take, drop};
 ghost use Rattle.rules.specs.Record.{fitted, written_found, written_of};
 ghost use Rattle.rules.specs.Trailer.{by_spaces, unfolded, value_is_written};
 ghost use Rattle.rules.specs.White.{trim};
 ghost use Rattle.value.specs.Joined.{joined_length};
-ghost use Rattle.value.specs.Value.{value_found};
+ghost use Rattle.value.specs.Value.{NextLine, value_found};
 
 use copy::copy_at;
-use rules::{Part, Refusal, Value, ValueFound};
+use rules::{Part, Refusal, Value};
 use text::line::{has_more_lines, line_len};
 use white::trim_value;
 
@@ -25,9 +26,30 @@ fn trim_line<'a>(line: &'a [u8]) -> &'a [u8]
     ensures { result.now ≡ trim line.now }
 {
     let kept = trim_value(line);
-    let start = kept.start;
-    let end = kept.end;
-    &line[start..end]
+    &line[kept.start..kept.end]
+}
+
+// The lines of a raw value, each without the white space at its ends: those of what is left.
+#[derive(Drop)]
+struct TrimmedLines<'a> {
+    rest: &'a [u8],
+}
+
+impl<'a> Iterator for TrimmedLines<'a> {
+    type Item = &'a [u8];
+
+    ghost next_gives = { λ before line after. MatchOption line (before.rest.now ≡ []) (λ l. NextLine before.rest.now l.now after.rest.now) };
+
+    ghost remaining = { λ lines. at_most (length lines.rest.now) };
+
+    fn next(&mut self) -> Option<&'a [u8]> {
+        if self.rest.is_empty() {
+            return None;
+        }
+        let (line, below) = self.rest.split_at(line_len(self.rest));
+        self.rest = below;
+        Some(trim_line(line))
+    }
 }
 
 // The length of two pieces joined by one space, an empty one dropped.
@@ -49,12 +71,8 @@ pub fn unfolded_len(value: &[u8]) -> usize
     ensures { result ≡ length (unfolded value.now) }
 {
     let mut len = 0;
-    let mut at = 0;
-    while at < value.len() {
-        let end = at + line_len(&value[at..]);
-        let line = trim_line(&value[at..end]);
+    for line in (TrimmedLines { rest: value }) {
         len = joined_len(len, line.len());
-        at = end;
     }
     len
 }
@@ -77,7 +95,7 @@ fn push_line(line: &[u8], out: &mut [u8], len: usize) -> usize
     ensures out_after { out.new ≡ by_spaces (take len out.old ∷ line.now ∷ []) ++ drop result out.old }
 {
     let end = joined_len(len, line.len());
-    if line.len() == 0 {
+    if line.is_empty() {
         return end;
     }
     if len == 0 {
@@ -89,36 +107,32 @@ fn push_line(line: &[u8], out: &mut [u8], len: usize) -> usize
     end
 }
 
-// Writes the unfolded value to the front of `out`, keeps every byte behind it, and answers its length.
+// Writes the unfolded value to the front of `out`, keeps every byte after it, and answers its length.
 pub fn unfold_into(value: &[u8], out: &mut [u8]) -> usize
     requires { length (unfolded value.now) ≤ length out.old }
     ensures value { result ≡ length (unfolded value.now) }
     ensures out_after { out.new ≡ unfolded value.now ++ drop (length (unfolded value.now)) out.old }
 {
     let mut len = 0;
-    let mut at = 0;
-    while at < value.len() {
-        let end = at + line_len(&value[at..]);
-        let line = trim_line(&value[at..end]);
+    for line in (TrimmedLines { rest: value }) {
         len = push_line(line, out, len);
-        at = end;
     }
     len
 }
 
 // The unfolded value, written to the front of `out`, where it fits.
-fn unfold_fitting(value: &[u8], out: &mut [u8]) -> ValueFound
+fn unfold_fitting(value: &[u8], out: &mut [u8]) -> Result<Value, Refusal>
     requires { length (unfolded value.now) ≤ length out.old }
     ensures value { result ≡ written_found (unfolded value.now) (length out.old) }
     ensures out_after { out.new ≡ fitted (unfolded value.now) out.old }
 {
     let end = unfold_into(value, out);
-    ValueFound::At(Value::InBuffer(Part { start: 0, end }))
+    Ok(Value::InBuffer(Part { start: 0, end }))
 }
 
 // The unfolded value of a raw value that has several lines: written to the front of `out`, where there is room. It is never longer
 // than the raw value, so its length is found only where that does not fit.
-fn unfold_value(value: &[u8], out: &mut [u8]) -> ValueFound
+fn unfold_value(value: &[u8], out: &mut [u8]) -> Result<Value, Refusal>
     ensures value { result ≡ written_found (unfolded value.now) (length out.old) }
     ensures out_after { out.new ≡ fitted (unfolded value.now) out.old }
 {
@@ -127,14 +141,20 @@ fn unfold_value(value: &[u8], out: &mut [u8]) -> ValueFound
     }
     let needed = unfolded_len(value);
     if out.len() < needed {
-        return ValueFound::Refused(Refusal::NoRoom(needed));
+        return Err(Refusal::NoRoom(needed));
     }
     unfold_fitting(value, out)
 }
 
 // The value of the raw value from `from` up to `to`, whose first line ends at `first`: a part of the body, or, unfolded, the front of
 // `out`.
-pub fn read_value(body: &[u8], from: usize, first: usize, to: usize, out: &mut [u8]) -> ValueFound
+pub fn read_value(
+    body: &[u8],
+    from: usize,
+    first: usize,
+    to: usize,
+    out: &mut [u8],
+) -> Result<Value, Refusal>
     requires from_le_to { (from ≤ to) × (to ≤ length body.now) }
     requires body_value { value_is_written (take (to - from) (drop from body.now)) ≡ ltb first to }
     ensures value { result ≡ value_found from (take (to - from) (drop from body.now)) (length out.old) }
@@ -145,7 +165,8 @@ pub fn read_value(body: &[u8], from: usize, first: usize, to: usize, out: &mut [
         return unfold_value(raw, out);
     }
     let part = trim_value(raw);
-    let start = from + part.start;
-    let end = from + part.end;
-    ValueFound::At(Value::InInput(Part { start, end }))
+    Ok(Value::InInput(Part {
+        start: from + part.start,
+        end: from + part.end,
+    }))
 }

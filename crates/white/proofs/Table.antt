@@ -1,42 +1,16 @@
--- The table of code points, searched from one entry to another, and which of its entries are in question for a code point: the
--- laws that `is_among` and its callers go by. Assumes nothing.
+-- The table of code points, and which of its entries are in question for a code point: the laws that the callers of `is_among` go
+-- by. Assumes nothing.
 use mathlib.Core.Bool.{Bool, true, false, ◌||◌}
 use mathlib.Core.List.{List, [], ◌∷◌, ◌++◌}
 use mathlib.Core.Logic.{inl, inr}
 use mathlib.Core.Path.{◌≡◌, refl, sym, ap, ◌∙◌}
-use Prim.Native.Nat.{ℕ, suc, ◌+◌, ◌-◌, ◌≤◌, ◌<◌}
-use native.Mathlib.Numerals.{add-one}
+use Prim.Native.Nat.{ℕ, ◌≤◌, ◌<◌}
 use native.Mathlib.Omega.{arith}
-use borrow.Author.Tests.{eq-eqb, ne_eqb}
 use lib.Dec.{T, eqb, leb, ltb, eqb→eq, leb→le, ltb→lt, not_T}
-use lib.ListN.{length, take, drop, get_or, take-append-drop}
-use lib.Seq.{drop-cons}
+use lib.ListN.{take, drop, take-append-drop}
 use Rattle.rules.specs.Lists.{all, any}
 use Rattle.rules.specs.White.{white_space}
 use Rattle.rules.proofs.Lists.{and_left, and_right, is_false, or_cases}
-
--- ---- the search from entry i to entry end
-
-table_length : length white_space ≡ 25
-unfolding white_space
-table_length = refl
-
-entry_first : (i end : ℕ) → i < end → end ≤ 25 →
-    take (end - i) (drop i white_space) ≡ get_or white_space i 0 ∷ take (end - (i + 1)) (drop (i + 1) white_space)
-entry_first i end h k =
-    let j : i < length white_space = omega (arith, table_length) in
-    let n : end - i ≡ suc (end - (i + 1)) = omega arith in
-    rw (n, add-one i, drop-cons white_space i 0)
-
-pub entry_hit : (c i end : ℕ) → i < end → end ≤ 25 → get_or white_space i 0 ≡ c → any (eqb c) (take (end - i) (drop i white_space)) ≡ true
-entry_hit c i end h k e = rw (entry_first i end h k, eq-eqb c (get_or white_space i 0) (sym e))
-
-pub entry_missed : (c i end : ℕ) → i < end → end ≤ 25 → (get_or white_space i 0 ≡ c → ⊥) →
-    any (eqb c) (take (end - i) (drop i white_space)) ≡ any (eqb c) (take (end - (i + 1)) (drop (i + 1) white_space))
-entry_missed c i end h k n = rw (entry_first i end h k, ne_eqb c (get_or white_space i 0) (λ e. n (sym e)))
-
-pub none_left : (c i end : ℕ) → end ≤ i → any (eqb c) (take (end - i) (drop i white_space)) ≡ false
-none_left c i end h = let z : end - i ≡ 0 = omega arith in rw z
 
 -- ---- what holds of every entry
 
@@ -98,11 +72,3 @@ high_part c h =
     let none : any (eqb c) (take 6 white_space) ≡ false =
     none_of (λ x. ltb x 0x80) c (take 6 white_space) first_low (λ t. omega (arith, ltb→lt c 0x80 t)) in
     rw others (sym (both_parts c ∙ rw none))
-
-pub zero_part : any (eqb 0) (take 19 (drop 6 white_space)) ≡ any (eqb 0) white_space
-unfolding white_space
-zero_part = refl
-
-pub zero_out : any (eqb 0) white_space ≡ false
-unfolding white_space
-zero_out = refl

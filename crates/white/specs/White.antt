@@ -1,17 +1,18 @@
 -- A code point read from the front of an input, and a form at the end of one. What the lengths found have to do with the forms
 -- is proved (proofs/Utf8, found and passed; proofs/Scan, form_end_lem).
-use Rattle.std.specs.Prelude.{Bool, ◌&&◌, List, ◌++◌, ◌≡◌, ℕ, ◌-◌, ◌<◌, eqb, leb, ltb, length, drop, get_or, if◌then◌else◌}
+use Rattle.std.specs.Prelude.{Bool, ◌&&◌, List, ◌++◌, ◌≡◌, ℕ, ◌-◌, ◌<◌, Option, None, Some, eqb, leb, ltb, length, drop, get_or, if◌then◌else◌}
 use Rattle.rules.specs.Bytes.{within}
 use Rattle.rules.specs.White.{utf8, form_at}
+use Rattle.white.specs.declared.CodePoint.{CodePoint}
 
--- the six bits that a continuation byte carries (RFC 3629, section 3: 10xxxxxx); 64 where the byte is none
-abbrev pub carries : ℕ → ℕ
-carries b = if within 0x80 0xbf b then b - 0x80 else 64
+-- the six bits that a continuation byte carries (RFC 3629, section 3: 10xxxxxx); none where the byte is no such byte
+abbrev pub carries : ℕ → Option ℕ
+carries b = if within 0x80 0xbf b then Some (b - 0x80) else None
 
--- at the front of `s` stands the form of `code`, of `len` bytes; or that of no code point below U+10000, and both are 0
-pub data Decoded (s : List ℕ) (code len : ℕ) : Type 0 where
-  point : (rest : List ℕ) → code < 0x10000 → s ≡ utf8 code ++ rest → len ≡ length (utf8 code) → Decoded s code len
-  none : ((c : ℕ) (rest : List ℕ) → c < 0x10000 → s ≡ utf8 c ++ rest → ⊥) → code ≡ 0 → len ≡ 0 → Decoded s code len
+-- at the front of `s` stands the form of the code point, as long as is said; or that of no code point below U+10000
+pub data Decoded (s : List ℕ) : Option CodePoint → Type 0 where
+  point : (p : CodePoint) (rest : List ℕ) → p.code < 0x10000 → s ≡ utf8 p.code ++ rest → p.len ≡ length (utf8 p.code) → Decoded s (Some p)
+  none : ((c : ℕ) (rest : List ℕ) → c < 0x10000 → s ≡ utf8 c ++ rest → ⊥) → Decoded s None
 
 -- the last k bytes are a form
 abbrev pub last_form : ℕ → List ℕ → Bool
@@ -29,7 +30,7 @@ graphic b = ltb 0x20 b && ltb b 0x80
 abbrev pub solid : List ℕ → Bool
 solid s = leb 1 (length s) && (graphic (get_or s 0 0) && graphic (get_or s (length s - 1) 0))
 
--- as people write a value: a space before a graphic byte, and an LF behind one
+-- as people write a value: a space before a graphic byte, and an LF after one
 abbrev pub plain : List ℕ → Bool
 plain s =
     leb 3 (length s)

@@ -49,43 +49,30 @@ fn is_among(code: u32, from: usize, end: usize) -> bool
     requires { (from ≤ end) × (end ≤ 25) }
     ensures { result ≡ any (eqb code) (take (end - from) (drop from white_space)) }
 {
-    let table = white_space();
-    let mut i = from;
-    while i < end {
-        if table[i] == code {
-            return true;
-        }
-        i += 1;
-    }
-    false
+    white_space()[from..end].iter().any(|entry| code == *entry)
 }
 
-// The six bits that a continuation byte carries; 64 where the byte is none.
-fn carried(byte: u8) -> u32
+// The six bits that a continuation byte carries; none where the byte is no such byte.
+fn carried(byte: u8) -> Option<u32>
     ensures { result ≡ carries byte }
 {
-    if byte < 0x80 {
-        return 64;
+    match byte {
+        0x80..=0xbf => Some(byte as u32 - 0x80),
+        _ => None,
     }
-    if byte > 0xbf {
-        return 64;
-    }
-    byte as u32 - 0x80
 }
 
-// A code point and the length of its form; 0 and 0 where there is none.
-#[derive(Drop)]
+// A code point and the length of its form.
+#[derive(Clone, Copy)]
 struct CodePoint {
     code: u32,
     len: usize,
 }
 
-const NONE: CodePoint = CodePoint { code: 0, len: 0 };
-
 // The code point below U+10000 whose form is at the front. The first byte is not below 0x80.
-fn decode(s: &[u8]) -> CodePoint
+fn decode(s: &[u8]) -> Option<CodePoint>
     requires { 0x80 ≤ get_or s.now 0 0 }
-    ensures { Decoded s.now result.code result.len }
+    ensures { Decoded s.now result }
 {
     if s[0] < 0xe0 {
         return decode_two(s);
@@ -94,50 +81,33 @@ fn decode(s: &[u8]) -> CodePoint
 }
 
 // The same, where the first byte is that of a form of two bytes or of none: 0xc0 and 0xc1 begin overlong ones alone.
-fn decode_two(s: &[u8]) -> CodePoint
+fn decode_two(s: &[u8]) -> Option<CodePoint>
     requires { (0x80 ≤ get_or s.now 0 0) × (get_or s.now 0 0 < 0xe0) }
-    ensures { Decoded s.now result.code result.len }
+    ensures { Decoded s.now result }
 {
-    if s.len() < 2 {
-        return NONE;
+    if s.len() < 2 || s[0] < 0xc2 {
+        return None;
     }
-    let a = s[0] as u32;
-    let b = carried(s[1]);
-    if a < 0xc2 {
-        return NONE;
-    }
-    if b > 63 {
-        return NONE;
-    }
-    let code = (a - 0xc0) * 64 + b;
-    CodePoint { code: code, len: 2 }
+    let b = carried(s[1])?;
+    let code = (s[0] as u32 - 0xc0) * 64 + b;
+    Some(CodePoint { code, len: 2 })
 }
 
 // The same, where the first byte is that of a form of three bytes or of none. What is below U+0800 is overlong.
-fn decode_three(s: &[u8]) -> CodePoint
+fn decode_three(s: &[u8]) -> Option<CodePoint>
     requires { 0xe0 ≤ get_or s.now 0 0 }
-    ensures { Decoded s.now result.code result.len }
+    ensures { Decoded s.now result }
 {
-    if s.len() < 3 {
-        return NONE;
+    if s.len() < 3 || s[0] > 0xef {
+        return None;
     }
-    let a = s[0] as u32;
-    let b = carried(s[1]);
-    let c = carried(s[2]);
-    if a > 0xef {
-        return NONE;
-    }
-    if b > 63 {
-        return NONE;
-    }
-    if c > 63 {
-        return NONE;
-    }
-    let code = (a - 0xe0) * 4096 + b * 64 + c;
+    let b = carried(s[1])?;
+    let c = carried(s[2])?;
+    let code = (s[0] as u32 - 0xe0) * 4096 + b * 64 + c;
     if code < 0x800 {
-        return NONE;
+        return None;
     }
-    CodePoint { code: code, len: 3 }
+    Some(CodePoint { code, len: 3 })
 }
 
 // The length of the form at the front, whose first byte is not below 0x80; 0 where none is there.
@@ -145,7 +115,9 @@ fn white_len_wide(s: &[u8]) -> usize
     requires { 0x80 ≤ get_or s.now 0 0 }
     ensures { result ≡ form_at s.now }
 {
-    let point = decode(s);
+    let Some(point) = decode(s) else {
+        return 0;
+    };
     if is_among(point.code, BYTES, 25) {
         return point.len;
     }
@@ -257,7 +229,7 @@ pub fn trim(s: &[u8]) -> Part
         return Part { start: 0, end: 0 };
     }
     Part {
-        start: start,
+        start,
         end: start + kept,
     }
 }
@@ -286,7 +258,7 @@ pub fn trim_text(s: &[u8]) -> Part
     trim(s)
 }
 
-// Whether an input is as people write a value: a space before a graphic byte, and an LF behind one.
+// Whether an input is as people write a value: a space before a graphic byte, and an LF after one.
 fn is_plain(s: &[u8]) -> bool
     ensures { result ≡ plain s.now }
 {
@@ -297,7 +269,7 @@ fn is_plain(s: &[u8]) -> bool
     (s[0] == b' ') & is_graphic(s[1]) & is_graphic(s[n - 2]) & (s[n - 1] == b'\n')
 }
 
-// The same part as `trim`'s, for a value or a line of one: most of them are told at once.
+// The same part as `trim`'s, for a value or a line of one: one look is enough for most of them.
 pub fn trim_value(s: &[u8]) -> Part
     ensures { (result.start ≡ trim_at s.now) × (result.end ≡ trim_at s.now + length (trim s.now)) }
 {

@@ -8,11 +8,12 @@ use Prim.Native.Nat.{ℕ, zero, suc, ◌+◌, ◌-◌, ◌*◌, ◌/◌, ◌%◌
 use native.Mathlib.Nat.{mul_assoc, pow-suc}
 use native.Mathlib.Omega.{arith}
 use borrow.Author.Tests.{eqb-false, eqb-true}
-use lib.Bits.{bit_and, bit_or, bit_xor, and_block, or_block, xor_block, or_shifted_r}
+use lib.Bits.{bit_and, bit_or, bit_xor, and_block, or_block, xor_block}
 use lib.Count.{leading_of_zero, leading_unique, count_leading_zeros, count_trailing_zeros}
 use lib.Dec.{eqb, ltb, ltb→lt}
 use lib.ListN.{length, get_or}
 use lib.Pow.{pow-add}
+use Rattle.std.specs.Int.{from_le_bytes, w64}
 use Rattle.rules.specs.Lists.{run}
 use Rattle.word.specs.Word.{Bytes, each, flag, packed}
 
@@ -170,7 +171,7 @@ before_flag q s e =
 
 -- ---- the last flag
 
--- behind the last byte that does not pass; 0 where all pass
+-- after the last byte that does not pass; 0 where all pass
 abbrev pub next : ℕ → Bool → ℕ
 next (suc n) t = suc (suc n)
 next zero true = zero
@@ -214,32 +215,9 @@ behind_flag q s e = by (tops q s)
 
 -- ---- the bytes themselves
 
-joined : (lo b k : ℕ) → lo < 2 ^ k → b * 2 ^ k < 2 ^ 64 → bit_or lo (b * 2 ^ k % 2 ^ 64) ≡ b * 2 ^ k + lo
-joined lo b k h f = let same : b * 2 ^ k % 2 ^ 64 ≡ b * 2 ^ k = omega arith in rw same (or_shifted_r b k lo h)
-
--- bytes one behind another, as they are joined to a word
-abbrev pub joined_eight : (ℕ → ℕ) → ℕ
-joined_eight f =
-    bit_or (bit_or (bit_or (bit_or (bit_or (bit_or (bit_or (f 0) (f 1 * 2 ^ 8 % 2 ^ 64)) (f 2 * 2 ^ 16 % 2 ^ 64)) (f 3 * 2 ^ 24 % 2 ^ 64)) (f 4 * 2 ^ 32 % 2 ^ 64))
-    (f 5 * 2 ^ 40 % 2 ^ 64)) (f 6 * 2 ^ 48 % 2 ^ 64)) (f 7 * 2 ^ 56 % 2 ^ 64)
-
 listed : ℕ → (ℕ → ℕ) → List ℕ
 listed zero f = []
 listed (suc n) f = f 0 ∷ listed n (λ i. f (suc i))
-
-eight_are : (f : ℕ → ℕ) → ((i : ℕ) → f i < 256) → joined_eight f ≡ packed (listed 8 f)
-unfolding listed each
-eight_are f h =
-    let h₀ = h 0 in let h₁ = h 1 in let h₂ = h 2 in let h₃ = h 3 in let h₄ = h 4 in let h₅ = h 5 in let h₆ = h 6 in let h₇ = h 7 in
-    rw (
-      joined (f 0) (f 1) 8 (omega arith) (omega arith),
-      joined (f 1 * 2 ^ 8 + f 0) (f 2) 16 (omega arith) (omega arith),
-      joined (f 2 * 2 ^ 16 + (f 1 * 2 ^ 8 + f 0)) (f 3) 24 (omega arith) (omega arith),
-      joined (f 3 * 2 ^ 24 + (f 2 * 2 ^ 16 + (f 1 * 2 ^ 8 + f 0))) (f 4) 32 (omega arith) (omega arith),
-      joined (f 4 * 2 ^ 32 + (f 3 * 2 ^ 24 + (f 2 * 2 ^ 16 + (f 1 * 2 ^ 8 + f 0)))) (f 5) 40 (omega arith) (omega arith),
-      joined (f 5 * 2 ^ 40 + (f 4 * 2 ^ 32 + (f 3 * 2 ^ 24 + (f 2 * 2 ^ 16 + (f 1 * 2 ^ 8 + f 0))))) (f 6) 48 (omega arith) (omega arith),
-      joined (f 6 * 2 ^ 48 + (f 5 * 2 ^ 40 + (f 4 * 2 ^ 32 + (f 3 * 2 ^ 24 + (f 2 * 2 ^ 16 + (f 1 * 2 ^ 8 + f 0)))))) (f 7) 56 (omega arith) (omega arith),
-    ) (omega arith)
 
 listed_are : (n : ℕ) (s : List ℕ) → length s ≡ n → listed n (λ i. get_or s i 0) ≡ s
 unfolding listed
@@ -248,5 +226,10 @@ listed_are zero (x ∷ s) e = absurd (omega arith)
 listed_are (suc n) [] e = absurd (omega arith)
 listed_are (suc n) (x ∷ s) e = ap (λ t. x ∷ t) (listed_are n s (omega arith))
 
-pub joined_are : (s : List ℕ) → length s ≡ 8 → Bytes s → joined_eight (λ i. get_or s i 0) ≡ packed s
-joined_are s e h = eight_are (λ i. get_or s i 0) h ∙ ap packed (listed_are 8 s e)
+-- the number that the library makes of eight bytes, the first of them lowest
+by_place : (s : List ℕ) → from_le_bytes w64 s ≡ packed (listed 8 (λ i. get_or s i 0))
+unfolding listed each
+by_place s = omega arith
+
+pub packed_is : (s : List ℕ) → length s ≡ 8 → from_le_bytes w64 s ≡ packed s
+packed_is s e = by_place s ∙ ap packed (listed_are 8 s e)

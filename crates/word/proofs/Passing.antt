@@ -25,7 +25,7 @@ module _ (q : ℕ → Bool) where
         λ y. let z : suc k ≤ suc (length (run q (take k s))) = rw t at y in let w = r.1 (omega arith) in rw t (omega arith),
       )
 
-  -- behind bytes that pass
+  -- after bytes that pass
   pub later : (j : ℕ) (s : List ℕ) → j ≤ length (run q s) → j + length (run q (drop j s)) ≡ length (run q s)
   later zero s h = omega arith
   later (suc j) [] h = absurd (omega arith)

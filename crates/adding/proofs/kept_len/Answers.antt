@@ -5,6 +5,7 @@ use native.Mathlib.Omega.{arith}
 use borrow.Author.Rules.{rules}
 use Rattle.paragraph.proofs.Upward.{start_before, start_le}
 use Rattle.adding.proofs.Upward.{kept_above, kept_here, kept_nothing}
+use Rattle.adding.proofs.Writing.{nothing_there, something_there}
 use Rattle.adding.proofs.kept_len.Goals as goal
 
 pub slice_bounds-is_blank_line-count : goal.slice_bounds-is_blank_line-count
@@ -18,7 +19,7 @@ slice_bounds-is_blank_line-start c =
 
 pub returns-then-not-is_blank_line : goal.returns-then-not-is_blank_line
 returns-then-not-is_blank_line c =
-    kept_here _ _ _ c.line_start-start.ensures c.loop-end.invariant (search rules) (sym c.is_blank_line.ensures ∙ c.if-not-is_blank_line.true)
+    something_there _ _ (kept_here _ _ _ c.line_start-start.ensures c.loop-end.invariant (search rules) (sym c.is_blank_line.ensures ∙ c.if-not-is_blank_line.true)) (search rules)
 
 pub loop-end-smaller : goal.loop-end-smaller
 loop-end-smaller c = start_before _ _ _ c.line_start-start.ensures (search rules)
@@ -32,4 +33,4 @@ loop-end-preserved c = (
 pub returns : goal.returns
 returns c =
     let top : c.loop-end.end ≡ 0 = search rules in
-    kept_nothing _ (rw top at c.loop-end.invariant)
+    nothing_there _ (kept_nothing _ (rw top at c.loop-end.invariant))

@@ -1,19 +1,18 @@
 -- `block::message_len` meets its contract. The invariant: the message from the front on is what is passed and the message
 -- from `len` on. Assumes nothing.
-use mathlib.Core.Path.{refl, sym, ◌∙◌}
+use Rattle.std.specs.Prelude.{is_some}
+use mathlib.Core.Path.{sym, ap, ◌∙◌}
 use Prim.Native.Nat.{◌+◌, ◌≤◌, ◌<◌}
 use native.Mathlib.Omega.{arith}
 use lib.ListN.{length}
 use Rattle.text.proofs.ByLines.{line_ahead}
-use Rattle.trailer.proofs.AtStart.{no_trailer_there, trailer_there}
 use Rattle.block.proofs.Step.{message_ends, message_line}
 use Rattle.block.proofs.message_len.Goals as goal
 use Rattle.block.proofs.message_len.Goals.{After-line_len-len}
 
-pub returns-in-At : goal.returns-in-At
-returns-in-At c =
-    let found = sym c.parse_trailer_line.ensures ∙ c.in-At.is in
-    omega (arith, message_ends c.args.cursor.now c.loop-len.len (trailer_there _ _ found refl))
+pub returns-then-is_some : goal.returns-then-is_some
+returns-then-is_some c =
+    omega (arith, message_ends c.args.cursor.now c.loop-len.len (sym (c.is_some.ensures ∙ ap is_some c.parse_trailer_line.ensures) ∙ c.if-is_some.true))
 
 -- a line is ahead
 ahead : (c : After-line_len-len) → (0 < c.line_len-len.result) × (c.loop-len.len + c.line_len-len.result ≤ length c.args.cursor.now)
@@ -25,5 +24,5 @@ overflow_add-len c = omega (arith, ahead c)
 
 pub loop-len-preserved : goal.loop-len-preserved
 loop-len-preserved c =
-    let none = no_trailer_there _ (sym c.parse_trailer_line.ensures ∙ c.in_default.is) in
+    let none = sym (c.is_some.ensures ∙ ap is_some c.parse_trailer_line.ensures) ∙ c.if-is_some.false in
     ((ahead c).1, omega (arith, message_line c.args.cursor.now c.loop-len.len _ (omega arith) none c.line_len-len.ensures))

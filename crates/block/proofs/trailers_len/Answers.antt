@@ -7,25 +7,25 @@ use lib.ListN.{length, drop}
 use Rattle.block.specs.Step.{part_length}
 use Rattle.block.proofs.Step.{part_ends, part_trailer, trailer_within}
 use Rattle.block.proofs.trailers_len.Goals as goal
-use Rattle.block.proofs.trailers_len.Goals.{In-Trailer}
+use Rattle.block.proofs.trailers_len.Goals.{In-Some}
 
 -- a trailer is ahead
-ahead : (c : In-Trailer) → let s = c.args.cursor.now in let n = c.in-Trailer.trailer in
+ahead : (c : In-Some) → let s = c.args.cursor.now in let n = c.in-Some.trailer.len in
     (0 < n) × (c.loop-trailer.len + n ≤ length s) × (part_length (drop c.loop-trailer.len s) ≡ n + part_length (drop (c.loop-trailer.len + n) s))
 ahead c =
     let s = c.args.cursor.now in
-    let found = sym c.trailer_at_start.ensures ∙ c.in-Trailer.is in
+    let found = sym c.trailer_at_start.ensures ∙ c.in-Some.is in
     let (some, fits) = trailer_within s c.loop-trailer.len (omega arith) found in
     (some, fits, part_trailer s c.loop-trailer.len found)
 
 pub overflow_add-len : goal.overflow_add-len
-overflow_add-len c = omega (arith, ahead c)
+overflow_add-len c = omega (arith, ahead (goal.at.overflow_add-len c).In-Some)
 
 pub loop-trailer-smaller : goal.loop-trailer-smaller
-loop-trailer-smaller c = omega (arith, ahead c)
+loop-trailer-smaller c = omega (arith, ahead (goal.at.loop-trailer-smaller c).In-Some)
 
 pub loop-trailer-preserved : goal.loop-trailer-preserved
-loop-trailer-preserved c = omega (arith, ahead c)
+loop-trailer-preserved c = omega (arith, ahead (goal.at.loop-trailer-preserved c).In-Some)
 
 pub returns : goal.returns
 returns c =

@@ -1,69 +1,56 @@
 -- `comment::comment_end` meets its contract: behind a text, what is read from `at` on is what is read from the text's end on.
-use mathlib.Core.Bool.{false}
-use mathlib.Core.List.{List}
-use mathlib.Core.Path.{◌≡◌}
-use Prim.Native.Nat.{ℕ, ◌-◌, ◌≤◌}
 use native.Mathlib.Omega.{arith}
-use lib.ListN.{length}
-use Rattle.comment.specs.Ends.{TextEnd}
-use Rattle.comment.specs.declared.End.{End}
-use Rattle.comment.proofs.Laws.{SameInside, text_refused, text_passed, no_bracket, bracket, other, too_deep, inner_refused, inner_passed}
+use Rattle.std.proofs.lemmas.Result.{err_from_is_err_and}
+use Rattle.mailbox.specs.Grammar.{comment_text}
+use Rattle.comment.proofs.Laws.{text_refused, no_bracket, bracket, other, too_deep, inner_refused, inner_passed}
 use Rattle.comment.proofs.+comment_end.Goals as goal
 
-record Behind (s : List ℕ) (allowed at i p : ℕ) : Type 0 where
-  same : SameInside s allowed at p
-  above : at ≤ p
-  further : i ≤ p
-  inside : p ≤ length s
-
-behind : (s : List ℕ) (allowed at i : ℕ) (t : End) → (at ≤ i) × (i ≤ length s) × SameInside s allowed at i → TextEnd false s i t → t.number ≡ 0 → Behind s allowed at i t.at
-behind s allowed at i t o x z = record {
-  same = text_passed s allowed at i t o.2 x z;
-  above = omega (arith, x.later, o.0);
-  further = x.later;
-  inside = x.within;
-}
-
-pub returns-then-t-ne0 : goal.returns-then-t-ne0
-returns-then-t-ne0 t c =
-    let a = c.args in
-    text_refused a.s.now a.allowed a.at c.loop-i.i c.text_end-t.result c.loop-i.invariant.2 c.text_end-t.ensures c.if-t-ne0.true c.loop-i.invariant.0
+pub returns-in_err-p : goal.returns-in_err-p
+returns-in_err-p t c =
+    let p = err_from_is_err_and c.from_residual.result c.from_residual.ensures.1 in
+    rw (p.1, p.2) (text_refused c.loop-i.invariant.same c.loop-i.invariant.later (c.in_err-p.ensures comment_text (λ c b l h. h)))
 
 pub returns-then-p-s : goal.returns-then-p-s
 returns-then-p-s t c =
-    let a = c.args in
-    let f = behind a.s.now a.allowed a.at c.loop-i.i c.text_end-t.result c.loop-i.invariant c.text_end-t.ensures c.if-t-ne0.false in
-    no_bracket a.s.now a.allowed a.at c.text_end-t.result.at f.same f.above (omega arith) f.inside
+    no_bracket c.loop-i.invariant.same c.loop-i.invariant.later (c.in_ok-p.ensures comment_text (λ c b l h. h)) c.if-p-s.true
 
-pub returns-then-c-eq41 : goal.returns-then-c-eq41
-returns-then-c-eq41 t c =
-    let a = c.args in
-    let f = behind a.s.now a.allowed a.at c.loop-i.i c.text_end-t.result c.loop-i.invariant c.text_end-t.ensures c.if-t-ne0.false in
-    bracket a.s.now a.allowed a.at c.text_end-t.result.at f.same f.above (omega (arith, f.inside)) c.if-c-eq41.true
+pub bounds-s-p : goal.bounds-s-p
+bounds-s-p t c = let x = c.in_ok-p.ensures comment_text (λ c b l h. h) in omega (arith, x.within)
 
-pub returns-then-c-ne40 : goal.returns-then-c-ne40
-returns-then-c-ne40 t c =
-    let a = c.args in
-    let f = behind a.s.now a.allowed a.at c.loop-i.i c.text_end-t.result c.loop-i.invariant c.text_end-t.ensures c.if-t-ne0.false in
-    other a.s.now a.allowed a.at c.text_end-t.result.at f.same f.above (omega (arith, f.inside)) (c.text_end-t.ensures.stops c.if-t-ne0.false) c.if-c-eq41.false c.if-c-ne40.true
+pub returns-then-s-p-eq41 : goal.returns-then-s-p-eq41
+returns-then-s-p-eq41 t c =
+    let x = c.in_ok-p.ensures comment_text (λ c b l h. h) in
+    bracket c.loop-i.invariant.same c.loop-i.invariant.later x (omega (arith, x.within)) c.if-s-p-eq41.true
+
+pub bounds-s-p-in-loop-i : goal.bounds-s-p-in-loop-i
+bounds-s-p-in-loop-i t c = let x = c.in_ok-p.ensures comment_text (λ c b l h. h) in omega (arith, x.within)
+
+pub returns-then-s-p-ne40 : goal.returns-then-s-p-ne40
+returns-then-s-p-ne40 t c =
+    let x = c.in_ok-p.ensures comment_text (λ c b l h. h) in
+    other c.loop-i.invariant.same c.loop-i.invariant.later x (omega (arith, x.within)) c.if-s-p-eq41.false c.if-s-p-ne40.true
 
 pub returns-then-allowed-eq0 : goal.returns-then-allowed-eq0
 returns-then-allowed-eq0 t c =
-    let a = c.args in
-    let f = behind a.s.now a.allowed a.at c.loop-i.i c.text_end-t.result c.loop-i.invariant c.text_end-t.ensures c.if-t-ne0.false in
-    too_deep a.s.now a.allowed a.at c.text_end-t.result.at f.same f.above (omega (arith, f.inside)) c.if-c-ne40.false c.if-allowed-eq0.true
+    let x = c.in_ok-p.ensures comment_text (λ c b l h. h) in
+    too_deep c.loop-i.invariant.same c.loop-i.invariant.later x (omega (arith, x.within)) c.if-s-p-ne40.false c.if-allowed-eq0.true
 
-pub returns-then-e-ne0 : goal.returns-then-e-ne0
-returns-then-e-ne0 t c =
-    let a = c.args in
-    let f = behind a.s.now a.allowed a.at c.loop-i.i c.text_end-t.result c.loop-i.invariant c.text_end-t.ensures c.if-t-ne0.false in
-    inner_refused a.s.now a.allowed a.at c.text_end-t.result.at f.same f.above (a.allowed - 1) c.comment_end-e.result (omega (arith, f.inside)) c.if-c-ne40.false (omega arith) c.comment_end-e.ensures c.if-e-ne0.true
+pub returns-in_err-i : goal.returns-in_err-i
+returns-in_err-i t c =
+    let x = c.in_ok-p.ensures comment_text (λ c b l h. h) in
+    let p = err_from_is_err_and c.from_residual-in_err-i.result c.from_residual-in_err-i.ensures.1 in
+    rw (p.1, p.2) (inner_refused c.loop-i.invariant.same c.loop-i.invariant.later x (omega (arith, x.within)) c.if-s-p-ne40.false c.if-allowed-eq0.false c.in_err-i.ensures)
+
+pub loop-i-smaller : goal.loop-i-smaller
+loop-i-smaller t c =
+    let x = c.in_ok-p.ensures comment_text (λ c b l h. h) in
+    omega (arith, x.later, c.in_ok-i.ensures.later, c.in_ok-i.ensures.within)
 
 pub loop-i-preserved : goal.loop-i-preserved
 loop-i-preserved t c =
-    let a = c.args in
-    let f = behind a.s.now a.allowed a.at c.loop-i.i c.text_end-t.result c.loop-i.invariant c.text_end-t.ensures c.if-t-ne0.false in (
-      omega (arith, f.above, c.comment_end-e.ensures.later),
-      c.comment_end-e.ensures.within,
-      inner_passed a.s.now a.allowed a.at c.text_end-t.result.at f.same f.above (a.allowed - 1) c.comment_end-e.result (omega (arith, f.inside)) c.if-c-ne40.false (omega arith) c.comment_end-e.ensures c.if-e-ne0.false,
-    )
+    let x = c.in_ok-p.ensures comment_text (λ c b l h. h) in
+    record {
+      later = omega (arith, x.later, c.in_ok-i.ensures.later);
+      within = c.in_ok-i.ensures.within;
+      same = inner_passed c.loop-i.invariant.same c.loop-i.invariant.later x (omega (arith, x.within)) c.if-s-p-ne40.false c.if-allowed-eq0.false c.in_ok-i.ensures;
+    }

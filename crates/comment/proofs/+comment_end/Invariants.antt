@@ -9,7 +9,7 @@ abbrev pub decreases-comment_end : goal.decreases-comment_end
 decreases-comment_end l = l.allowed
 
 abbrev pub invariant-loop-i : goal.invariant-loop-i
-invariant-loop-i l = (l.at ≤ l.i) × (l.i ≤ length l.s) × SameInside l.s l.allowed l.at l.i
+invariant-loop-i l = record { later : l.at ≤ l.i; within : l.i ≤ length l.s; same : SameInside l.s l.allowed l.at l.i }
 
 abbrev pub decreases-loop-i : goal.decreases-loop-i
 decreases-loop-i l = length l.s - l.i

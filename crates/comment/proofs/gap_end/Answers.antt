@@ -1,19 +1,13 @@
 -- `comment::gap_end` meets its contract: a step that is no refusal leads to where the reading goes on.
-use native.Mathlib.Omega.{arith}
 use borrow.Author.Rules.{rules}
-use Rattle.comment.proofs.Laws.{gap_on, gap_moves, gap_refused}
+use native.Mathlib.Omega.{arith}
+use Rattle.comment.proofs.Laws.{gap_on, gap_refused}
 use Rattle.comment.proofs.gap_end.Goals as goal
 
-pub returns-then-e-ne0 : goal.returns-then-e-ne0
-returns-then-e-ne0 c =
-    let a = c.args in
-    gap_refused a.s.now a.at c.loop-i.i c.gap_step-e.result c.loop-i.invariant.2 c.loop-i.invariant.0 (search rules) c.gap_step-e.ensures c.if-e-ne0.true
+pub returns-in_err-next : goal.returns-in_err-next
+returns-in_err-next c = search (rules, gap_refused)
 
 pub loop-i-preserved : goal.loop-i-preserved
 loop-i-preserved c =
-    let a = c.args in
-    let m = gap_moves a.s.now a.at c.loop-i.i c.gap_step-e.result c.loop-i.invariant.2 c.loop-i.invariant.0 (search rules) c.gap_step-e.ensures in (
-      omega (arith, m.0, c.loop-i.invariant.0),
-      m.1,
-      gap_on a.s.now a.at c.loop-i.i c.gap_step-e.result c.loop-i.invariant.2 c.loop-i.invariant.0 (search rules) c.gap_step-e.ensures c.if-e-ne0.false,
-    )
+    let o = gap_on c.loop-i.invariant.same c.loop-i.invariant.later c.loop-i-test.true c.in_ok-next.ensures in
+    record { later = omega (arith, o.1); within = o.2; same = o.0 }

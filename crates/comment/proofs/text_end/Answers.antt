@@ -1,39 +1,28 @@
--- `comment::text_end` meets its contract. The invariant: what is read from `at` on is what is read from `i` on.
--- Assumes nothing.
-use Prim.Native.Nat.{◌+◌, ◌≤◌, ◌<◌}
+-- `comment::text_end` meets its contract. Assumes nothing.
+use Rattle.std.specs.Prelude.{Some}
+use mathlib.Core.Path.{sym, ap, ◌∙◌}
 use native.Mathlib.Omega.{arith}
-use borrow.Author.Rules.{rules}
-use lib.ListN.{length}
-use Rattle.comment.proofs.Laws.{SameText, text_passes, text_stops, text_lost}
+use Rattle.comment.proofs.Laws.{text_lost, text_over, text_passes, text_stops}
 use Rattle.comment.proofs.text_end.Goals as goal
-use Rattle.comment.proofs.text_end.Goals.{Else-w-eq3}
+
+pub returns-in_default : goal.returns-in_default
+returns-in_default g c text x =
+    text_lost (c.loop-i.invariant.same text x) c.loop-i.invariant.later c.loop-i-test.true
+    (c.in_default.ensures.value text x)
 
 pub returns-then-w-eq0 : goal.returns-then-w-eq0
-returns-then-w-eq0 c =
-    let a = c.args in
-    let n = c.text_width-w in
-    text_stops a.quoted a.s.now a.at c.loop-i.i n.result c.loop-i.invariant.0 c.loop-i.invariant.2 (search rules)
-    n.ensures c.if-w-eq0.true
-
-pub returns-then-w-eq3 : goal.returns-then-w-eq3
-returns-then-w-eq3 c =
-    let a = c.args in
-    let n = c.text_width-w in
-    text_lost a.quoted a.s.now a.at c.loop-i.i n.result c.loop-i.invariant.0 c.loop-i.invariant.2 (search rules) n.ensures c.if-w-eq3.true
-
--- one turn
-turn : (c : Else-w-eq3) →
-    let a = c.args in
-    let i = c.loop-i.i + c.text_width-w.result in
-    SameText a.quoted a.s.now a.at i × (i ≤ length a.s.now) × (0 < c.text_width-w.result)
-turn c =
-    let a = c.args in
-    let n = c.text_width-w in
-    text_passes a.quoted a.s.now a.at c.loop-i.i n.result c.loop-i.invariant.0 c.loop-i.invariant.2 (search rules)
-    n.ensures c.if-w-eq0.false c.if-w-eq3.false
-
-pub overflow_add-i : goal.overflow_add-i
-overflow_add-i c = let b = (turn c).1 in search rules
+returns-then-w-eq0 g c text x =
+    text_stops (c.loop-i.invariant.same text x) c.loop-i.invariant.later c.loop-i-test.true
+    (ap Some (sym c.if-w-eq0.true) ∙ c.in-Some.ensures.value text x)
 
 pub loop-i-preserved : goal.loop-i-preserved
-loop-i-preserved c = (omega arith, (turn c).1, (turn c).0)
+loop-i-preserved g c = record {
+  later = omega arith;
+  within = c.in-Some.ensures.within;
+  same = λ text x.
+      text_passes (c.loop-i.invariant.same text x) c.loop-i.invariant.later c.loop-i-test.true
+      (c.in-Some.ensures.value text x) c.if-w-eq0.false;
+}
+
+pub returns : goal.returns
+returns g c text x = text_over (c.loop-i.invariant.same text x) c.loop-i.invariant.later c.loop-i.invariant.within c.loop-i-test.false

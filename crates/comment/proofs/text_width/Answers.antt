@@ -5,29 +5,26 @@ use borrow.Author.Rules.{rules}
 use Rattle.comment.proofs.Laws.{width_text, width_none, width-end, width-takes}
 use Rattle.comment.proofs.text_width.Goals as goal
 
-pub returns-then-is_text : goal.returns-then-is_text
-returns-then-is_text c =
-    let a = c.args in
-    sym (width_text a.quoted a.s.now a.at (search rules) (sym c.is_text.ensures ∙ c.if-is_text.true))
+pub returns-then-is_text-clause-value : goal.returns-then-is_text-clause-value
+returns-then-is_text-clause-value g c text x =
+    width_text text c.args.s.now c.args.at (search rules) (sym (x _ _ (search rules) c.is_text.ensures) ∙ c.if-is_text.true)
 
-pub returns-then-c-ne92 : goal.returns-then-c-ne92
-returns-then-c-ne92 c =
-    let a = c.args in
-    sym (width_none a.quoted a.s.now a.at (search rules) (sym c.is_text.ensures ∙ c.if-is_text.false) c.if-c-ne92.true)
+pub returns-then-s-at-ne92-clause-value : goal.returns-then-s-at-ne92-clause-value
+returns-then-s-at-ne92-clause-value g c text x =
+    let no = sym (x _ _ (search rules) c.is_text.ensures) ∙ c.if-is_text.false in
+    width_none text c.args.s.now c.args.at (search rules) no c.if-s-at-ne92.true
 
-pub returns-then-at-s : goal.returns-then-at-s
-returns-then-at-s c =
-    let a = c.args in
-    sym (width-end a.quoted a.s.now a.at (search rules) (sym c.is_text.ensures ∙ c.if-is_text.false) c.if-c-ne92.false c.if-at-s.true)
+pub returns-then-at-s-clause-value : goal.returns-then-at-s-clause-value
+returns-then-at-s-clause-value g c text x =
+    let no = sym (x _ _ (search rules) c.is_text.ensures) ∙ c.if-is_text.false in
+    width-end text c.args.s.now c.args.at (search rules) no c.if-s-at-ne92.false c.if-at-s.true
 
-pub returns-then-is_taken : goal.returns-then-is_taken
-returns-then-is_taken c =
-    let a = c.args in
-    sym (width-takes a.quoted a.s.now a.at true (search rules) (sym c.is_text.ensures ∙ c.if-is_text.false) c.if-c-ne92.false (search rules)
-    (sym c.is_taken.ensures ∙ c.if-is_taken.true))
+pub returns-then-is_taken-clause-value : goal.returns-then-is_taken-clause-value
+returns-then-is_taken-clause-value g c text x =
+    let no = sym (x _ _ (search rules) c.is_text.ensures) ∙ c.if-is_text.false in
+    width-takes text c.args.s.now c.args.at (search rules) no c.if-s-at-ne92.false true (search rules) (sym c.is_taken.ensures ∙ c.if-is_taken.true)
 
-pub returns : goal.returns
-returns c =
-    let a = c.args in
-    sym (width-takes a.quoted a.s.now a.at false (search rules) (sym c.is_text.ensures ∙ c.if-is_text.false) c.if-c-ne92.false (search rules)
-    (sym c.is_taken.ensures ∙ c.if-is_taken.false))
+pub returns-clause-value : goal.returns-clause-value
+returns-clause-value g c text x =
+    let no = sym (x _ _ (search rules) c.is_text.ensures) ∙ c.if-is_text.false in
+    width-takes text c.args.s.now c.args.at (search rules) no c.if-s-at-ne92.false false (search rules) (sym c.is_taken.ensures ∙ c.if-is_taken.false)

@@ -20,6 +20,6 @@ slice_bounds-write_all-end g c =
     let s = c.args.lines.now in
     let end = c.line_len-end.result in
     let l : end ≤ length s = omega (arith, c.line_len-end.ensures, first_within s) in
-    let h : c.trim_line_ending-text.result.len ≤ length s =
-    omega (arith, c.trim_line_ending-text.ensures, text_shorter (take end s), length-take-le end s l) in
-    sym (length-take-le c.trim_line_ending-text.result.len s h)
+    let h : c.trim_line_ending-len.result.len ≤ length s =
+    omega (arith, c.trim_line_ending-len.ensures, text_shorter (take end s), length-take-le end s l) in
+    sym (length-take-le c.trim_line_ending-len.result.len s h)

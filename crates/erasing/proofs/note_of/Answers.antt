@@ -11,20 +11,20 @@ use Rattle.erasing.proofs.note_of.Goals as goal
 
 -- the body begins inside the message
 pub slice_bounds-trailer_block_start-count : goal.slice_bounds-trailer_block_start-count
-slice_bounds-trailer_block_start-count c = rw c.title_and_body-places.ensures.1 (body_fits c.args.message.now)
+slice_bounds-trailer_block_start-count c = rw c.title_and_body-body_start.ensures.1 (body_fits c.args.message.now)
 
 pub slice_bounds-trailer_block_start-start : goal.slice_bounds-trailer_block_start-start
-slice_bounds-trailer_block_start-start c = rw c.title_and_body-places.ensures.1 (body_fits c.args.message.now)
+slice_bounds-trailer_block_start-start c = rw c.title_and_body-body_start.ensures.1 (body_fits c.args.message.now)
 
 -- so does the walk
 pub overflow_add-at : goal.overflow_add-at
-overflow_add-at c = omega (arith, walk_fits c.args.message.now _ _ c.title_and_body-places.ensures.1 c.trailer_block_start.ensures)
+overflow_add-at c = omega (arith, walk_fits c.args.message.now _ _ c.title_and_body-body_start.ensures.1 c.trailer_block_start.ensures)
 
 pub note_from-requires : goal.note_from-requires
-note_from-requires c = walk_fits c.args.message.now _ _ c.title_and_body-places.ensures.1 c.trailer_block_start.ensures
+note_from-requires c = walk_fits c.args.message.now _ _ c.title_and_body-body_start.ensures.1 c.trailer_block_start.ensures
 
 pub returns : goal.returns
 returns c =
     c.note_from.ensures
     ∙ ap (λ (ts : List Trailer). note_said ts (answer ts))
-    (sym (walk_at c.args.message.now _ _ c.title_and_body-places.ensures.1 c.trailer_block_start.ensures))
+    (sym (walk_at c.args.message.now _ _ c.title_and_body-body_start.ensures.1 c.trailer_block_start.ensures))

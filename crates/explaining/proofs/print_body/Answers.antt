@@ -4,17 +4,18 @@ use Rattle.paragraph.proofs.Scanned.{paragraph_within}
 use Rattle.rules.proofs.Paragraph.{start_within}
 use Rattle.explaining.proofs.print_body.Goals as goal
 
-pub print_paragraph-requires : goal.print_paragraph-requires
-print_paragraph-requires g c =
+pub slice_bounds-print_paragraph-count : goal.slice_bounds-print_paragraph-count
+slice_bounds-print_paragraph-count g c =
     (paragraph_within c.args.body.now c.last_paragraph-paragraph.result c.last_paragraph-paragraph.ensures).0
 
-pub overflow_add-scan : goal.overflow_add-scan
-overflow_add-scan g c =
-    omega (arith, (paragraph_within c.args.body.now c.last_paragraph-paragraph.result c.last_paragraph-paragraph.ensures).1)
+pub slice_bounds-print_paragraph-start : goal.slice_bounds-print_paragraph-start
+slice_bounds-print_paragraph-start g c =
+    (paragraph_within c.args.body.now c.last_paragraph-paragraph.result c.last_paragraph-paragraph.ensures).0
 
 pub print_counts-requires : goal.print_counts-requires
 print_counts-requires g c =
-    omega (arith, (paragraph_within c.args.body.now c.last_paragraph-paragraph.result c.last_paragraph-paragraph.ensures).1)
+    let few = (paragraph_within c.args.body.now c.last_paragraph-paragraph.result c.last_paragraph-paragraph.ensures).1 in
+    (omega (arith, few), omega (arith, few))
 
 pub print_blocks-requires : goal.print_blocks-requires
 print_blocks-requires g c = rw c.trailer_block_start-start.ensures (start_within c.args.body.now)

@@ -1,4 +1,4 @@
--- `filter::find_named` meets its contract. Invariant: what the trailers from `behind` on give, or else the last that was found before
+-- `filter::find_named` meets its contract. Invariant: what the trailers from `next` on give, or else the last that was found before
 -- them, is the answer. Measure: the bytes ahead. Assumes nothing.
 use mathlib.Core.Path.{◌≡◌}
 use Prim.Native.Nat.{◌-◌, ◌≤◌}
@@ -10,7 +10,7 @@ use Rattle.filter.proofs.find_named.Given as goal
 
 abbrev pub invariant-loop-places : goal.invariant-loop-places
 invariant-loop-places l =
-    (l.behind ≤ length l.body) × (or_last (lookup l.name (walk_from l.body l.behind)) l.last ≡ looked_up (lookup l.name (walk_from l.body l.at)))
+    (l.next ≤ length l.body) × (or_last (lookup l.name (walk_from l.body l.next)) l.last ≡ looked_up (lookup l.name (walk_from l.body l.at)))
 
 abbrev pub decreases-loop-places : goal.decreases-loop-places
-decreases-loop-places l = length l.body - l.behind
+decreases-loop-places l = length l.body - l.next

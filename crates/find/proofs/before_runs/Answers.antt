@@ -29,7 +29,7 @@ before_the_blocks : (c : After-before_blocks-i) → let s = c.args.s.now in
     behind_lf s (c.loop-i.i - 16) ≡ behind_lf s c.args.end
     → (j ≤ c.loop-i.i - 16) × (behind_lf s j ≡ behind_lf s c.args.end)
 before_the_blocks c run =
-    let p = before_part c.args.s.now (c.loop-i.i - 16) (search rules) c.before_blocks-i.ensures.upper_bound in
+    let p = before_part c.args.s.now (c.loop-i.i - 16) (search rules) c.before_blocks-i.ensures.passes_no_lf in
     (p.0, p.1 ∙ run)
 
 pub loop-i-preserved-then-end-i-eq-BLOCK : goal.loop-i-preserved-then-end-i-eq-BLOCK

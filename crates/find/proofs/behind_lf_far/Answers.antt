@@ -28,10 +28,10 @@ there c =
     let size : i - (i - 16) ≡ 16 = omega arith in
     let end : i - 16 + 16 ≡ i = omega arith in
     let k : c.behind_lf_of_run.result ≡ behind_lf (part c) 16 = rw size at c.behind_lf_of_run.ensures in
-    let full : length (part c) ≡ 16 = length-take-le 16 (drop (i - 16) s) (simp length-drop (omega (arith, c.before_runs-i.ensures.upper_bound.0, c.requires))) in
-    let some = some_last (part c) 16 (omega (arith, full)) (rw (take_all 16 (part c) (omega (arith, full))) (c.before_runs-i.ensures.s_value h)) in
+    let full : length (part c) ≡ 16 = length-take-le 16 (drop (i - 16) s) (simp length-drop (omega (arith, c.before_runs-i.ensures.passes_no_lf.0, c.requires))) in
+    let some = some_last (part c) 16 (omega (arith, full)) (rw (take_all 16 (part c) (omega (arith, full))) (c.before_runs-i.ensures.stops_at_lf h)) in
     let last = rw end at ((last_of_part 16 (i - 16) s).0 some) in
-    omega (arith, k, last, c.before_runs-i.ensures.upper_bound.1)
+    omega (arith, k, last, c.before_runs-i.ensures.passes_no_lf.1)
 
 pub overflow_add-result : goal.overflow_add-result
 overflow_add-result c =

@@ -23,14 +23,14 @@ past_the_run c =
     let none : any is_lf (take 16 (drop i s)) ≡ false = rw size at (sym c.has_lf.ensures ∙ c.if-has_lf.false) in
     omega (arith, past_run 16 s i (search rules) none, c.loop-i.invariant.3)
 
--- the blocks passed over behind that run have none either
+-- the blocks passed over after that run have none either
 past_the_blocks : (c : After-past_blocks-i) → let s = c.args.s.now in
     let at = c.args.at in
     let j = c.loop-i.i + 16 + c.past_blocks-i.result in
     c.loop-i.i + 16 + until_lf (drop (c.loop-i.i + 16) s) ≡ at + until_lf (drop at s)
     → (j ≤ length s) × (j + until_lf (drop j s) ≡ at + until_lf (drop at s))
 past_the_blocks c run =
-    let p = past_part c.args.s.now (c.loop-i.i + 16) (search rules) c.past_blocks-i.ensures.upper_bound in
+    let p = past_part c.args.s.now (c.loop-i.i + 16) (search rules) c.past_blocks-i.ensures.passes_no_lf in
     (p.0, p.1 ∙ run)
 
 pub loop-i-preserved-then-i-at-eq-BLOCK : goal.loop-i-preserved-then-i-at-eq-BLOCK

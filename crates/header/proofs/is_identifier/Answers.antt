@@ -1,4 +1,4 @@
--- `header::is_identifier` meets its contract. The invariant: the first `i` bytes are digits. Assumes nothing.
+-- `header::is_identifier` meets its contract. Assumes nothing.
 use mathlib.Core.Bool.{and-true}
 use mathlib.Core.Path.{sym, ◌∙◌}
 use Rattle.commit.specs.Grammar.{hex_digit}
@@ -11,5 +11,5 @@ returns-then-content-size c = sym (id_long c.args.size c.args.content.now c.if-c
 pub returns : goal.returns
 returns c =
     let a = c.args in
-    sym (id_is a.size a.content.now c.loop-i.good c.loop-i.invariant.1
-    (c.loop-i.invariant.2 ∙ rw (all_over hex_digit a.content.now c.loop-i.i c.loop-i-test.false) (and-true c.loop-i.good)))
+    sym (id_is a.size a.content.now c.loop-byte.good c.if-content-size.false
+    (c.loop-byte.invariant ∙ rw (all_over hex_digit a.content.now c.loop-byte.byte-index c.loop-byte-test.false) (and-true c.loop-byte.good)))

@@ -5,7 +5,7 @@ use Rattle.judge.proofs.Turns.{Scanned}
 use Rattle.judge.proofs.judge_header.Given as goal
 
 abbrev pub invariant-loop-at : goal.invariant-loop-at
-invariant-loop-at l = Scanned l.content l.number l.at l.n l.phase l.line
+invariant-loop-at l = Scanned l.content l.number l.at l.lines l.phase l.line
 
 abbrev pub decreases-loop-at : goal.decreases-loop-at
 decreases-loop-at l = length l.content - l.at

@@ -8,11 +8,11 @@ use Rattle.rules.proofs.Title.{body_fits}
 use Rattle.message.specs.Message.{walk_start}
 use Rattle.message.proofs.Started.{walk_fits}
 use Rattle.message.proofs.message_trailers.Goals as goal
-use Rattle.message.proofs.message_trailers.Goals.{After-title_and_body-places, After-trailer_block_start}
+use Rattle.message.proofs.message_trailers.Goals.{After-title_and_body-body_start, After-trailer_block_start}
 
 -- the body starts in the message
-starts : (t : After-title_and_body-places) → t.title_and_body-places.result.body_start ≤ length t.args.message.now
-starts t = rw t.title_and_body-places.ensures.1 (body_fits t.args.message.now)
+starts : (t : After-title_and_body-body_start) → t.title_and_body-body_start.result.body_start ≤ length t.args.message.now
+starts t = rw t.title_and_body-body_start.ensures.1 (body_fits t.args.message.now)
 
 pub slice_bounds-trailer_block_start-count : goal.slice_bounds-trailer_block_start-count
 slice_bounds-trailer_block_start-count c = starts c
@@ -22,8 +22,8 @@ slice_bounds-trailer_block_start-start c = starts c
 
 -- the walk starts at the block start of the body
 walks : (b : After-trailer_block_start)
-    → b.title_and_body-places.result.body_start + b.trailer_block_start.result ≡ (walk_start b.args.message.now).at
-walks b = walk_begins b.args.message.now _ _ b.title_and_body-places.ensures.1 b.trailer_block_start.ensures
+    → b.title_and_body-body_start.result.body_start + b.trailer_block_start.result ≡ (walk_start b.args.message.now).at
+walks b = walk_begins b.args.message.now _ _ b.title_and_body-body_start.ensures.1 b.trailer_block_start.ensures
 
 pub overflow_add-at : goal.overflow_add-at
 overflow_add-at c = omega (arith, walks c, walk_fits c.args.message.now)

@@ -1,5 +1,8 @@
 -- `message::summary` meets its contract: the part that `trim` answers is read as it is, or folded. Assumes nothing.
-use mathlib.Core.Path.{sym, ap, ◌∙◌}
+use mathlib.Core.Bool.{false}
+use mathlib.Core.Path.{◌≡◌, sym, ap, ◌∙◌}
+use borrow.Author.Rules.{rules}
+use lib.Dec.{ltb}
 use native.Mathlib.Omega.{arith}
 use borrow.Author.Tests.{lt-ltb, le-ltb}
 use lib.ListN.{length}
@@ -21,7 +24,7 @@ pub returns-then-first-message : goal.returns-then-first-message
 returns-then-first-message c =
     let title = c.args.title.now in
     let out = c.args.out.now in
-    let short = le-ltb limit _ c.if-title-gt-LIMIT.false in
+    let short : ltb limit (length title) ≡ false = search rules in
     let kept = kept_part title c.trim_text-part.ensures in
     let q = sym c.first_lf-first.ensures.1 ∙ lt-ltb _ _ c.if-first-message.true in
     record {
@@ -33,7 +36,7 @@ pub returns : goal.returns
 returns c =
     let title = c.args.title.now in
     let out = c.args.out.now in
-    let short = le-ltb limit _ c.if-title-gt-LIMIT.false in
+    let short : ltb limit (length title) ≡ false = search rules in
     let part = c.trim_text-part.ensures in
     let kept = kept_part title part in
     let q = sym c.first_lf-first.ensures.1 ∙ le-ltb _ _ c.if-first-message.false in

@@ -1,30 +1,28 @@
 -- `object::line_at` meets its contract: the line is one of the header's. Assumes nothing.
-use mathlib.Core.Path.{sym, ap}
+use mathlib.Core.Path.{sym}
 use native.Mathlib.Omega.{arith}
-use Rattle.rules.specs.Answers.{says}
 use Rattle.object.proofs.Lines.{There, there, start_inside, line_parts, no_line}
 use Rattle.object.proofs.line_at.Goals as goal
-use Rattle.object.proofs.line_at.Goals.{Else-lines-number}
+use Rattle.object.proofs.line_at.Goals.{Else-header-number}
 
-pub returns-then-lines-number : goal.returns-then-lines-number
-returns-then-lines-number c =
+pub returns-then-header-number : goal.returns-then-header-number
+returns-then-header-number c =
     let a = c.args in
-    let h = c.requires in
-    ap (says 0) (sym (no_line a.content.now a.number a.lines h.start a.line h.judged c.if-lines-number.true))
+    sym (no_line a.content.now a.number a.header c.requires c.if-header-number.true)
 
 -- the line is one of the header's
-line : (c : Else-lines-number) → let a = c.args in There a.content.now a.number a.line.start a.line.end
+line : (c : Else-header-number) → let a = c.args in There a.content.now a.number a.header.line.start a.header.line.end
 line c =
     let a = c.args in
-    let h = c.requires in
-    there a.content.now a.number a.lines h.start a.line h.judged c.if-lines-number.false
+    there a.content.now a.number a.header c.requires c.if-header-number.false
 
-pub name_end-end-requires : goal.name_end-end-requires
-name_end-end-requires c =
+pub name_end-name_end-requires : goal.name_end-name_end-requires
+name_end-name_end-requires c =
     let a = c.args in
-    omega (arith, start_inside a.content.now a.number a.line.start a.line.end (line c))
+    omega (arith, start_inside a.content.now a.number a.header.line.start a.header.line.end (line c))
 
 pub returns : goal.returns
 returns c =
     let a = c.args in
-    line_parts a.content.now a.number a.line.start a.line.end c.name_end-end.result (line (goal.at.returns c).Else-lines-number) c.name_end-end.ensures.1
+    let l = a.header.line in
+    line_parts a.content.now a.number l.start l.end c.name_end-name_end.result (line (goal.at.returns c).Else-header-number) c.name_end-name_end.ensures.1

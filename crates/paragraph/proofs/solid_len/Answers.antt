@@ -16,5 +16,5 @@ loop-len-preserved-then-body-len-eq-NEAR c =
     let here = sym c.is_ascii_whitespace.ensures ∙ c.if-not-is_ascii_whitespace.false in
     let fits : len - 1 ≤ length body = omega arith in
     let blank = back_one body len (search rules) c.loop-len.invariant.0 true here c.loop-len.invariant.1 in
-    let runs = back_part body (len - 1) c.before_blanks-len.result fits blank c.before_blanks-len.ensures.upper_bound in
+    let runs = back_part body (len - 1) c.before_blanks-len.result fits blank c.before_blanks-len.ensures.blank_after in
     (omega (arith, runs.0, fits), runs.1)

@@ -1,37 +1,30 @@
 -- `pieces::quote_end` meets its contract. Assumes nothing.
-use mathlib.Core.Bool.{true}
-use Prim.Native.Nat.{suc}
 use native.Mathlib.Numerals.{add-one}
 use native.Mathlib.Omega.{arith}
-use Rattle.comment.specs.Ends.{TextEnd}
+use Rattle.std.proofs.lemmas.Result.{err_from_is_err_and}
+use Rattle.mailbox.specs.Grammar.{quote_text}
 use Rattle.pieces.proofs.Laws.{quote_refused, quote_open, quote_other, quote_closes}
 use Rattle.pieces.proofs.quote_end.Goals as goal
-use Rattle.pieces.proofs.quote_end.Goals.{After-text_end-t}
 
--- the text behind the quote
-passed : (c : After-text_end-t) →
-    let a = c.args in
-    TextEnd true a.s.now (suc a.at) c.text_end-t.result
-passed c = rw (add-one c.args.at) at c.text_end-t.ensures
+pub returns-in_err-p : goal.returns-in_err-p
+returns-in_err-p c =
+    let p = err_from_is_err_and c.from_residual.result c.from_residual.ensures.1 in
+    rw (p.1, p.2) (quote_refused (rw (add-one c.args.at) at (c.in_err-p.ensures quote_text (λ c b l h. h))))
 
-pub returns-then-t-ne0 : goal.returns-then-t-ne0
-returns-then-t-ne0 c =
-    let a = c.args in
-    quote_refused a.s.now a.at c.text_end-t.result (passed (goal.at.returns-then-t-ne0 c).After-text_end-t) c.if-t-ne0.true
+pub returns-then-p-s : goal.returns-then-p-s
+returns-then-p-s c =
+    let x = rw (add-one c.args.at) at (c.in_ok-p.ensures quote_text (λ c b l h. h)) in
+    rw (← c.if-p-s.true) (quote_open c.args.at x c.if-p-s.true)
 
-pub returns-then-p-end : goal.returns-then-p-end
-returns-then-p-end c =
-    let a = c.args in
-    quote_open a.s.now a.at c.text_end-t.result (passed (goal.at.returns-then-p-end c).After-text_end-t) c.if-t-ne0.false c.if-p-end.true
+pub bounds-s-p : goal.bounds-s-p
+bounds-s-p c = let x = c.in_ok-p.ensures quote_text (λ c b l h. h) in omega (arith, x.within)
 
 pub returns-then-s-p-ne34 : goal.returns-then-s-p-ne34
 returns-then-s-p-ne34 c =
-    let a = c.args in
-    let x = passed (goal.at.returns-then-s-p-ne34 c).After-text_end-t in
-    quote_other a.s.now a.at c.text_end-t.result x c.if-t-ne0.false (omega (arith, x.within)) c.if-s-p-ne34.true
+    let x = rw (add-one c.args.at) at (c.in_ok-p.ensures quote_text (λ c b l h. h)) in
+    quote_other c.args.at x (omega (arith, x.within)) c.if-s-p-ne34.true
 
 pub returns : goal.returns
 returns c =
-    let a = c.args in
-    let x = passed (goal.at.returns c).After-text_end-t in
-    quote_closes a.s.now a.at c.text_end-t.result x c.if-t-ne0.false (omega (arith, x.within)) c.if-s-p-ne34.false
+    let x = rw (add-one c.args.at) at (c.in_ok-p.ensures quote_text (λ c b l h. h)) in
+    quote_closes c.args.at x (omega (arith, x.within)) c.if-s-p-ne34.false

@@ -1,7 +1,12 @@
 -- `printing::listed` meets its contract: there is room for every listing, so nothing is refused.
-use Rattle.printing.proofs.Enough.{has_length}
+use mathlib.Core.Path.{refl}
+use native.Mathlib.Omega.{arith}
+use Rattle.screen.proofs.Answers.{is_written}
+use Rattle.printing.proofs.Enough.{fits}
 use Rattle.printing.proofs.listed.Goals as goal
 
-pub returns-in_default : goal.returns-in_default
-returns-in_default c =
-    absurd (has_length c.args.message.now c.args.out.now c.requires.0 c.requires.1 c.listing_into.result c.listing_into.ensures.result_value c.in_default.not-Length)
+pub unwrap-len-requires : goal.unwrap-len-requires
+unwrap-len-requires c =
+    let m = c.args.message.now in
+    let d = c.args.out.now in
+    rw (is_written m d (omega (arith, c.requires.0)) (fits m d c.requires.0 c.requires.1) c.listing_into.result c.listing_into.ensures.result_value) refl

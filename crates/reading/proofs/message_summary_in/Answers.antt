@@ -1,4 +1,5 @@
 -- `reading::message_summary_in` meets its contract: the message up to its end is handed on. Assumes nothing.
+use borrow.Author.Rules.{rules}
 use mathlib.Core.List.{List, []}
 use mathlib.Core.Path.{◌∙◌}
 use Prim.Native.Nat.{ℕ}
@@ -19,7 +20,7 @@ returns c =
     let a = c.args in
     let out = a.out.now in record {
       result_value = c.message_summary.ensures.result_value
-          ∙ answered_in (says 1 []) (summary_with (length out)) a.reading a.message.now c.end_in-end.ensures c.if-message-gt-LIMIT.false;
+          ∙ answered_in (says 1 []) (summary_with (length out)) a.reading a.message.now c.end_in-end.ensures (search rules);
       out_after = c.message_summary.ensures.out_after
-          ∙ answered_in out (λ (m : List ℕ). summary_buffer m out) a.reading a.message.now c.end_in-end.ensures c.if-message-gt-LIMIT.false;
+          ∙ answered_in out (λ (m : List ℕ). summary_buffer m out) a.reading a.message.now c.end_in-end.ensures (search rules);
     }

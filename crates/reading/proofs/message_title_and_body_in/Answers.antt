@@ -1,4 +1,5 @@
 -- `reading::message_title_and_body_in` meets its contract: the message up to its end is handed on. Assumes nothing.
+use borrow.Author.Rules.{rules}
 use mathlib.Core.List.{[]}
 use mathlib.Core.Path.{◌∙◌}
 use Rattle.rules.specs.Answers.{says}
@@ -14,4 +15,4 @@ slice_bounds-message_title_and_body-end c =
 pub returns : goal.returns
 returns c =
     let a = c.args in
-    c.message_title_and_body.ensures ∙ answered_in (says 1 []) title_answer a.reading a.message.now c.end_in-end.ensures c.if-message-gt-LIMIT.false
+    c.message_title_and_body.ensures ∙ answered_in (says 1 []) title_answer a.reading a.message.now c.end_in-end.ensures (search rules)

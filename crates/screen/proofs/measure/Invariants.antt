@@ -10,9 +10,9 @@ use Rattle.screen.proofs.measure.Given as goal
 
 abbrev pub invariant-loop-places : goal.invariant-loop-places
 invariant-loop-places l =
-    (l.from ≤ length l.message) × (length l.message ≤ limit) × (l.trailers ≤ l.from) × (l.bytes ≤ 3 * l.from)
-    × (l.trailers + length (walk_from l.message l.from) ≡ length (walk_from l.message l.at))
-    × (l.bytes + length (lines_from l.message l.from) ≡ length (lines_from l.message l.at))
+    (l.from ≤ length l.message) × (length l.message ≤ limit) × (l.sizes.trailers ≤ l.from) × (l.sizes.bytes ≤ 3 * l.from)
+    × (l.sizes.trailers + length (walk_from l.message l.from) ≡ length (walk_from l.message l.at))
+    × (l.sizes.bytes + length (lines_from l.message l.from) ≡ length (lines_from l.message l.at))
 
 abbrev pub decreases-loop-places : goal.decreases-loop-places
 decreases-loop-places l = length l.message - l.from

@@ -5,7 +5,6 @@ use Prim.Native.Nat.{ℕ, ◌+◌, ◌≤◌, ◌<◌}
 use native.Mathlib.Nat.{zero-add}
 use native.Mathlib.Numerals.{add-one}
 use native.Mathlib.Omega.{arith}
-use borrow.Author.Rules.{rules}
 use lib.ListN.{length, get_or, set, length-map, length-set, get_or-map}
 use lib.Seq.{paste, paste-suc}
 use Rattle.summary.specs.Spaces.{space_for_lf, with_spaces}
@@ -21,7 +20,6 @@ next d m i b h k e =
 pub loop-i-preserved : goal.loop-i-preserved
 loop-i-preserved c =
     let a = c.args in (
-      search rules,
-      simp length-set c.loop-i.invariant.1,
-      rw c.loop-i.invariant.2 (next a.out.now a.message.now c.loop-i.i c.space_for_lf.result (omega arith) c.requires c.space_for_lf.ensures),
+      simp length-set c.loop-i.invariant.0,
+      rw c.loop-i.invariant.1 (next a.out.now a.message.now c.loop-i.i c.space_for_lf.result (omega arith) c.requires c.space_for_lf.ensures),
     )

@@ -10,9 +10,9 @@ use Rattle.rules.specs.Lines.{inner}
 use Rattle.rules.specs.Lists.{run}
 use Rattle.rules.specs.Summary.{added, pieces}
 use Rattle.rules.proofs.Parts.{rest}
-use Rattle.summary.specs.Put.{put}
+use Rattle.copy.specs.Onto.{onto}
+use Rattle.copy.proofs.Onto.{pasted}
 use Rattle.summary.proofs.Pieces.{found_within, added_last}
-use Rattle.summary.proofs.Put.{put_all}
 use Rattle.summary.proofs.Folding.{room, turn}
 use Rattle.summary.proofs.fold_into.Goals as goal
 
@@ -66,4 +66,4 @@ returns-clause-out_after c =
     let s = c.args.text.now in
     let at = l.at in
     let left : added (pieces (drop at s)) ≡ drop at s = added_last s at l.pos l.invariant.0 (omega arith) in
-    c.copy_at.ensures ∙ put_all l.out (take (length s - at) (drop at s)) l.len ∙ ap (put l.out l.len) (rest s at ∙ sym left) ∙ l.invariant.3.promised
+    c.copy_at.ensures ∙ pasted l.out (take (length s - at) (drop at s)) l.len ∙ ap (λ (v : List ℕ). onto l.len v l.out) (rest s at ∙ sym left) ∙ l.invariant.3.promised

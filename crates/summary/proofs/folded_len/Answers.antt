@@ -10,9 +10,10 @@ use Rattle.rules.specs.Lines.{inner}
 use Rattle.rules.specs.Lists.{run}
 use Rattle.rules.specs.Summary.{added, drop_blanks, folded, pieces}
 use Rattle.rules.proofs.Summary.{length-drop_blanks}
+use Rattle.summary.proofs.Blanks.{trimmed}
 use Rattle.summary.proofs.Pieces.{piece, piece-length, found_within, added_at, added_last}
 use Rattle.summary.proofs.folded_len.Goals as goal
-use Rattle.summary.proofs.folded_len.Goals.{After-trim_blanks}
+use Rattle.summary.proofs.folded_len.Goals.{After-trim_ascii_end}
 
 -- the piece from `at` to an LF at `pos`, of which `n` bytes stay
 module _ (s : List ℕ) (at pos n : ℕ) (e : pos ≡ at + length (run inner (drop at s))) (h : pos < length s)
@@ -30,20 +31,19 @@ module _ (s : List ℕ) (at pos n : ℕ) (e : pos ≡ at + length (run inner (dr
       )
 
 -- how much of the piece ahead stays
-stays : (c : After-trim_blanks) → c.trim_blanks.result ≤ c.loop-pos.pos - c.loop-pos.at
-stays c = within c.args.text.now c.loop-pos.at c.loop-pos.pos c.trim_blanks.result c.loop-pos.invariant.0 (omega arith) c.trim_blanks.ensures
+kept : (c : After-trim_ascii_end) → length c.trim_ascii_end.result.now ≡ length (drop_blanks (piece c.args.text.now c.loop-pos.at c.loop-pos.pos))
+kept c = ap length (trimmed (piece c.args.text.now c.loop-pos.at c.loop-pos.pos) c.trim_ascii_end.result.now c.trim_ascii_end.ensures.value)
 
-pub overflow_add-len : goal.overflow_add-len
-overflow_add-len c = omega (arith, stays c)
-
-pub overflow_add-len-in-loop-pos : goal.overflow_add-len-in-loop-pos
-overflow_add-len-in-loop-pos c = omega (arith, stays c)
+stays : (c : After-trim_ascii_end) → length c.trim_ascii_end.result.now ≤ c.loop-pos.pos - c.loop-pos.at
+stays c = within c.args.text.now c.loop-pos.at c.loop-pos.pos (length c.trim_ascii_end.result.now) c.loop-pos.invariant.0 (omega arith) (kept c)
 
 pub loop-pos-preserved : goal.loop-pos-preserved
 loop-pos-preserved c =
     let s = c.args.text.now in
-    let passed = turn s c.loop-pos.at c.loop-pos.pos c.trim_blanks.result c.loop-pos.invariant.0 (omega arith) c.trim_blanks.ensures in
-    (c.find_lf-pos-in-loop-pos.ensures, omega arith, omega (arith, stays (goal.at.loop-pos-preserved c).After-trim_blanks), omega (arith, passed))
+    let k = (goal.at.loop-pos-preserved c).After-trim_ascii_end in
+    let n = length c.trim_ascii_end.result.now in
+    let passed = turn s c.loop-pos.at c.loop-pos.pos n c.loop-pos.invariant.0 (omega arith) (kept k) in
+    (c.find_lf-pos-in-loop-pos.ensures, omega arith, omega (arith, stays k), omega (arith, passed))
 
 pub returns : goal.returns
 returns c =

@@ -1,13 +1,12 @@
--- `summary::has_followed` meets its contract. The invariant: one was found, or is from `i` on, where one is in the run. Assumes nothing.
+-- `summary::has_followed` meets its contract. The invariant: one was found, or is in what is left of the run, where one is in the run.
+-- Assumes nothing.
 use mathlib.Core.Bool.{◌||◌}
 use mathlib.Core.Path.{◌≡◌}
-use Prim.Native.Nat.{◌-◌, ◌≤◌}
-use lib.ListN.{length, drop}
+use Rattle.std.specs.Slice.Iter.{windows_rest, windows_size}
 use Rattle.summary.specs.Followed.{any_followed}
 use Rattle.summary.proofs.has_followed.Given as goal
 
-abbrev pub invariant-loop-i : goal.invariant-loop-i
-invariant-loop-i l = (l.i ≤ length l.run) × ((l.found || any_followed l.low l.high (drop l.i l.run)) ≡ any_followed l.low l.high l.run)
-
-abbrev pub decreases-loop-i : goal.decreases-loop-i
-decreases-loop-i l = length l.run - l.i
+abbrev pub invariant-loop-pair : goal.invariant-loop-pair
+invariant-loop-pair l =
+    (windows_size l.pair-iterator ≡ 2)
+    × ((l.found || any_followed l.low l.high (windows_rest l.pair-iterator)) ≡ any_followed l.low l.high l.run)

@@ -16,8 +16,8 @@ inside c =
     let size = length-take-le (a.to - a.from) rest (omega (arith, length-drop a.from a.body.now, c.requires.from_le_to)) in
     omega (arith, size, trim_fits (take (a.to - a.from) rest), c.trim_value-part.ensures, c.requires.from_le_to)
 
-pub overflow_add-start : goal.overflow_add-start
-overflow_add-start c = omega (arith, inside (goal.at.overflow_add-start c).After-trim_value-part)
+pub overflow_add-result : goal.overflow_add-result
+overflow_add-result c = omega (arith, inside (goal.at.overflow_add-result c).After-trim_value-part)
 
-pub overflow_add-end : goal.overflow_add-end
-overflow_add-end c = omega (arith, inside (goal.at.overflow_add-end c).After-trim_value-part)
+pub overflow_add-result-2 : goal.overflow_add-result-2
+overflow_add-result-2 c = omega (arith, inside (goal.at.overflow_add-result-2 c).After-trim_value-part)

@@ -1,23 +1,24 @@
--- `white::is_among` meets its contract. The invariant: the entries from `i` on say of the code point what those from `from` on
--- say. Assumes nothing.
-use mathlib.Core.Path.{◌≡◌, sym, ◌∙◌}
+-- `white::is_among` meets its contract. Assumes nothing.
+use mathlib.Core.List.{List, [], ◌∷◌}
+use mathlib.Core.Bool.{Bool, ◌||◌}
+use mathlib.Core.Path.{◌≡◌, refl, ap, ◌∙◌}
+use Prim.Native.Nat.{ℕ, ◌-◌}
 use borrow.Author.Rules.{rules}
+use lib.Dec.{eqb}
+use lib.ListN.{take, drop}
+use Rattle.std.proofs.lemmas.Iterator.{YieldsList-from_slice}
+use Rattle.std.proofs.lemmas.Iterator.Search.{any_from_yields_List}
+use Rattle.std.specs.List.{list_any}
+use Rattle.rules.specs.Lists.{any}
 use Rattle.rules.specs.White.{white_space}
-use Rattle.white.proofs.Table.{entry_hit, entry_missed}
 use Rattle.white.proofs.is_among.Goals as goal
 
-pub returns-then-table-i : goal.returns-then-table-i
-returns-then-table-i c =
-    let a = c.args in
-    let table : c.white_space-table.result ≡ white_space = c.white_space-table.ensures in
-    sym (c.loop-i.invariant.1
-    ∙ entry_hit a.code c.loop-i.i a.end (search rules) (search rules) (rw table at c.if-table-i.true))
+any_is : (c : ℕ) (xs : List ℕ) → list_any (λ y. eqb c y) xs ≡ any (eqb c) xs
+any_is c [] = refl
+any_is c (x ∷ xs) = ap (λ (b : Bool). eqb c x || b) (any_is c xs)
 
-pub loop-i-preserved : goal.loop-i-preserved
-loop-i-preserved c =
-    let a = c.args in
-    let table : c.white_space-table.result ≡ white_space = c.white_space-table.ensures in (
-      search rules,
-      c.loop-i.invariant.1
-          ∙ entry_missed a.code c.loop-i.i a.end (search rules) (search rules) (rw table at c.if-table-i.false),
-    )
+pub returns : goal.returns
+returns c =
+    let xs = take (c.args.end - c.args.from) (drop c.args.from white_space) in
+    any_from_yields_List (eqb c.args.code) _ _ _ c.any.ensures.ran (YieldsList-from_slice xs (search rules)) (λ x b q k. search rules)
+    ∙ any_is c.args.code xs

@@ -1,5 +1,5 @@
--- `fields::tally::tally_fields` meets its contract. Invariant: the trailers from `from` on, counted behind the tallies, make the whole
--- tallies. Measure: the bytes ahead. Assumes nothing.
+-- `fields::tally::tally_fields` meets its contract. Invariant: what is found up to `from`, and in the trailers from there on, is found in
+-- all. Measure: the bytes ahead. Assumes nothing.
 use Prim.Native.Nat.{◌-◌}
 use lib.ListN.{length}
 use Rattle.fields.proofs.Going.{AllGoing}

@@ -1,8 +1,7 @@
--- `text::fixed::starts_with` meets its contract. The invariant: what is left of `s` starts with what is left of `p` just where
--- `s` starts with `p`. Assumes nothing.
-use mathlib.Core.Path.{sym}
-use Rattle.text.proofs.Words.{short}
+-- `text::fixed::starts_with` meets its contract. Assumes nothing.
+use mathlib.Core.Path.{◌∙◌}
+use Rattle.text.proofs.Equal.{starts_is}
 use Rattle.text.proofs.fixed.starts_with.Goals as goal
 
-pub returns-then-s-p : goal.returns-then-s-p
-returns-then-s-p c = sym (short c.args.p.now c.args.s.now c.if-s-p.true)
+pub returns : goal.returns
+returns c = c.starts_with.ensures.value ∙ starts_is c.args.p.now c.args.s.now

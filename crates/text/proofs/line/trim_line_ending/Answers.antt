@@ -1,32 +1,40 @@
--- `text::line::trim_line_ending` meets its contract: the last byte tells, and where it is an LF the one before it. Assumes nothing.
-use mathlib.Core.Bool.{true, false}
-use mathlib.Core.Path.{◌≡◌, sym, ◌∙◌}
-use Rattle.rules.specs.Bytes.{LF}
-use Rattle.rules.specs.Lines.{ends_with}
-use Rattle.text.proofs.Endings.{bare_text, cr_text, crlf_text, lf_text}
+-- `text::line::trim_line_ending` meets its contract. Assumes nothing.
+use mathlib.Core.Path.{◌≡◌}
+use Prim.Native.Nat.{◌-◌, ◌≤◌, ◌<◌}
+use native.Mathlib.Omega.{arith}
+use borrow.Author.Rules.{rules}
+use lib.ListN.{length, get_or}
+use Rattle.rules.specs.Bytes.{LF, CR}
+use Rattle.text.proofs.Endings.{bare_by, cr_by, crlf_by, lf_by}
 use Rattle.text.proofs.line.trim_line_ending.Goals as goal
-use Rattle.text.proofs.line.trim_line_ending.Goals.{Else-ends_with, Then-ends_with}
 
--- where the line ends with an LF, there is one; where a CR stands before it, there are two
-lf_there : (i : Then-ends_with) → ends_with LF i.args.line.now ≡ true
-lf_there i = sym i.ends_with.ensures ∙ i.if-ends_with.true
+pub returns-in-13 : goal.returns-in-13
+returns-in-13 c =
+    let s = c.args.line.now in
+    let first : get_or s (length s - 2) 0 ≡ CR = search rules in
+    let last : get_or s (length s - 1) 0 ≡ LF = search rules in
+    crlf_by s (search rules) first last
 
-pub returns-then-ends_with-2 : goal.returns-then-ends_with-2
-returns-then-ends_with-2 c =
-    crlf_text _ (lf_there (goal.at.returns-then-ends_with-2 c).Then-ends_with) (sym c.ends_with-then-ends_with.ensures ∙ c.if-ends_with-2.true)
+pub returns-in-13-2 : goal.returns-in-13-2
+returns-in-13-2 c =
+    let s = c.args.line.now in
+    let some : 0 < length s = grind arith in
+    let last : get_or s (length s - 1) 0 ≡ CR = grind arith in
+    cr_by s some last
 
-pub returns-then-ends_with : goal.returns-then-ends_with
-returns-then-ends_with c =
-    lf_text _ (lf_there (goal.at.returns-then-ends_with c).Then-ends_with) (sym c.ends_with-then-ends_with.ensures ∙ c.if-ends_with-2.false)
+pub returns-in-10 : goal.returns-in-10
+returns-in-10 c =
+    let s = c.args.line.now in
+    let some : 0 < length s = grind arith in
+    let last : get_or s (length s - 1) 0 ≡ LF = grind arith in
+    let other : 2 ≤ length s → get_or s (length s - 2) 0 ≡ CR → ⊥ = λ h e. grind arith in
+    lf_by s some last other
 
--- and where it does not
-no_lf : (i : Else-ends_with) → ends_with LF i.args.line.now ≡ false
-no_lf i = sym i.ends_with.ensures ∙ i.if-ends_with.false
+pub returns-in_default : goal.returns-in_default
+returns-in_default c = bare_by c.args.line.now (λ h. grind arith)
 
-pub returns-then-ends_with-3 : goal.returns-then-ends_with-3
-returns-then-ends_with-3 c =
-    cr_text _ (no_lf (goal.at.returns-then-ends_with-3 c).Else-ends_with) (sym c.ends_with-2.ensures ∙ c.if-ends_with-3.true)
+pub returns-in_default-2 : goal.returns-in_default-2
+returns-in_default-2 c = bare_by c.args.line.now (λ h. (λ e. grind arith, λ e. grind arith))
 
-pub returns : goal.returns
-returns c =
-    bare_text _ (no_lf (goal.at.returns c).Else-ends_with) (sym c.ends_with-2.ensures ∙ c.if-ends_with-3.false)
+pub returns-in_default-3 : goal.returns-in_default-3
+returns-in_default-3 c = bare_by c.args.line.now (λ h. (λ e. grind arith, λ e. grind arith))

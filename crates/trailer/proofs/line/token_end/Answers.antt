@@ -1,7 +1,7 @@
 -- `trailer::line::token_end` meets its contract. The invariant: the token's length is what is passed and the run from `i` on.
 -- Assumes nothing.
 use mathlib.Core.List.{List}
-use mathlib.Core.Path.{◌≡◌}
+use mathlib.Core.Path.{◌≡◌, ◌∙◌}
 use Prim.Native.Nat.{ℕ, ◌+◌, ◌-◌, ◌≤◌, ◌<◌}
 use native.Mathlib.Omega.{arith}
 use borrow.Author.Rules.{rules}
@@ -13,6 +13,7 @@ use Rattle.rules.specs.Bytes.{token_byte}
 use Rattle.rules.specs.Lists.{run}
 use Rattle.rules.specs.Trailer.{token_in}
 use Rattle.word.proofs.Passing.{later, of_part}
+use Rattle.trailer.proofs.Runs.{run_prefix}
 use Rattle.trailer.proofs.line.token_end.Goals as goal
 use Rattle.trailer.proofs.line.token_end.Goals.{After-short_token_len}
 
@@ -46,7 +47,7 @@ in_rest : (c : After-short_token_len) → c.loop-i.i + c.short_token_len.result 
 unfolding token_in
 in_rest c =
     let s = c.args.line.now in
-    let there : c.short_token_len.result ≡ length (run token_byte (drop c.loop-i.i s)) = rw (rest s c.loop-i.i) at c.short_token_len.ensures in
+    let there : c.short_token_len.result ≡ length (run token_byte (drop c.loop-i.i s)) = rw (rest s c.loop-i.i) at c.short_token_len.ensures ∙ run_prefix token_byte (drop c.loop-i.i s) in
     omega (arith, there, c.loop-i.invariant.1)
 
 pub overflow_add-result-2 : goal.overflow_add-result-2

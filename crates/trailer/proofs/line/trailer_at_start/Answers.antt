@@ -12,9 +12,10 @@ use Rattle.trailer.proofs.line.trailer_at_start.Goals.{After-parse_trailer_line}
 all_parsed : (r : After-parse_trailer_line) → r.parse_trailer_line.result ≡ parsed r.args.cursor.now
 all_parsed r = rw (rest r.args.cursor.now 0) at r.parse_trailer_line.ensures
 
-pub returns-in_default : goal.returns-in_default
-returns-in_default c =
-    sym (no_trailer_there _ (sym (all_parsed (goal.at.returns-in_default c).After-parse_trailer_line) ∙ c.in_default.is))
+pub returns-in_err-line : goal.returns-in_err-line
+returns-in_err-line c =
+    let parsed = sym (all_parsed (goal.at.returns-in_err-line c).After-parse_trailer_line) in
+    c.from_residual.ensures ∙ sym (no_trailer_there _ (parsed ∙ c.in_err-line.was))
 
 pub slice_bounds-folds_len-count : goal.slice_bounds-folds_len-count
 slice_bounds-folds_len-count c = omega (arith, c.line_len-first.ensures, first_within c.args.cursor.now)
@@ -28,5 +29,5 @@ overflow_add-len c =
 
 pub returns : goal.returns
 returns c =
-    let there = sym (all_parsed (goal.at.returns c).After-parse_trailer_line) ∙ c.in-At.is in
+    let there = sym (all_parsed (goal.at.returns c).After-parse_trailer_line) ∙ c.in_ok-line.was in
     sym (trailer_there _ _ there c.line_len-first.ensures ∙ rw (← c.folds_len.ensures))

@@ -1,2 +1,0 @@
--- A law of parts, for the listing.
-pub mod Short

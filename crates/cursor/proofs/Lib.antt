@@ -1,2 +1,0 @@
--- How an answer moves the cursor.
-pub mod Moved

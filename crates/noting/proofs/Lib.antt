@@ -1,2 +1,0 @@
--- What carries the proof of `close`.
-pub mod Count

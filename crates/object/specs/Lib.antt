@@ -1,2 +1,0 @@
--- What a caller of `line_at` knows.
-pub mod Line

@@ -1,0 +1,2 @@
+-- What is read of the list of recorded answers.
+pub mod Reading
