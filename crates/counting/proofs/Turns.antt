@@ -9,8 +9,8 @@ use native.Mathlib.Numerals.{add-one}
 use native.Mathlib.Omega.{arith}
 use lib.Dec.{eqb}
 use lib.ListN.{length, take, drop, get_or, set, length-drop}
-use Rattle.rules.proofs.Record.{places_fit, token_is}
-use Rattle.rules.proofs.Walk.{Stands, walk_moves, walk_stands, walk_step}
+use Rattle.rules.proofs.Record.{token_is}
+use Rattle.rules.proofs.Walk.{Stands, walk_stands, walk_step}
 use Rattle.rules.specs.Bytes.{LF}
 use Rattle.rules.specs.Lines.{Line, before, folds, lines}
 use Rattle.rules.specs.Lists.{filled, run}
@@ -75,9 +75,8 @@ seven_more c t ts =
 
 -- ---- a step of the walk
 
--- a step from `at` on has found a trailer: its places are inside the message, and the walk is it and the walk from its end on
+-- a step from `at` on has found a trailer: the walk is it and the walk from its end on
 pub record Found (m : List ℕ) (at : ℕ) (p : Places) : Type 0 where
-  pub order : (p.start ≤ p.token_end) × (p.token_end ≤ p.end) × (at < p.end) × (p.end ≤ length m)
   pub found : Trailer
   pub token : take (p.token_end - p.start) (drop p.start m) ≡ token_of found
   pub list : walk_from m at ≡ found ∷ walk_from m p.end
@@ -94,7 +93,6 @@ module _ (m : List ℕ) (at : ℕ) {p : Places} (q : next_of (walk_from m at) �
       let t = first.found in
       let end : p.end ≡ end_of t = ap (λ (x : Places). x.end) first.places in
       record {
-        order = omega (arith, end, places_fit there first.places, walk_moves m at t first.later first.walked);
         found = t;
         token = token_is there first.places;
         list = cc (first.walked, end, walk_step m at t first.later first.walked);

@@ -13,7 +13,7 @@ use filter::is_of;
 use paragraph::trailer_block_start;
 use rules::Kind;
 use title::title_and_body;
-use trailer::walk::next_trailer_from;
+use trailer::walk::Trailers;
 
 // The counts by token, the six attribution tokens as document 01 lists them and then the rest, and the number of messages without
 // trailers.
@@ -61,11 +61,9 @@ impl Report {
         ensures without { self.new.without ≡ self.old.without }
         ensures found { result ≡ filled (walk_from message.now at) }
     {
-        let mut from = at;
         let mut found = false;
-        while let Some(places) = next_trailer_from(message, from) {
+        for places in (Trailers { body: message, at }) {
             self.add_token(&message[places.start..places.token_end]);
-            from = places.end;
             found = true;
         }
         found

@@ -1,18 +1,18 @@
--- A step of the walk: what is found of each field goes on behind the trailer that the step finds. Assumes nothing.
+-- A step of the walk: what is found of each field goes on after the trailer that the step finds. Assumes nothing.
 use Rattle.std.specs.Prelude.{Option, None, Some, if◌then◌else◌}
 use mathlib.Core.Bool.{Bool, true, false}
 use mathlib.Core.List.{List, [], ◌∷◌}
 use mathlib.Core.Path.{◌≡◌, refl, sym, ap, ◌∙◌}
-use Prim.Native.Nat.{ℕ, ◌-◌, ◌≤◌, ◌<◌}
+use Prim.Native.Nat.{ℕ, ◌-◌, ◌≤◌}
 use native.Mathlib.Omega.{arith}
 use lib.ListN.{length, take, drop}
 use Rattle.rules.specs.Trailer.{Trailer, token_of, raw_value_at, end_of, those, walk_from}
 use Rattle.rules.specs.declared.Part.{Part}
 use Rattle.rules.specs.declared.Places.{Places}
-use Rattle.rules.proofs.Record.{places_fit, token_is}
-use Rattle.rules.proofs.Walk.{Stands, walk_moves, walk_stands, walk_step}
+use Rattle.rules.proofs.Record.{token_is}
+use Rattle.rules.proofs.Walk.{Stands, walk_stands, walk_step}
 use Rattle.trailer.proofs.Steps.{First, first_is, none_is}
-use Rattle.trailer.specs.Walk.{next_of}
+use Rattle.trailer.specs.Walk.{Passes, next_of}
 use Rattle.closing.specs.Closing.{has}
 use Rattle.closing.specs.declared.Field.{Field}
 use Rattle.fields.specs.Tally.{raw_part, found_of, tally_of, more, counted, TalliesOf}
@@ -42,23 +42,27 @@ followed_more a false t ts = refl
 abbrev Going : Field → List ℕ → ℕ → Option Found → ℕ → Type 0
 Going f message at a from = followed a (those (has f) (walk_from message from)) ≡ tally_of f (walk_from message at)
 
--- so for all three
-pub record AllGoing (message : List ℕ) (at : ℕ) (a : Tallies) (from : ℕ) : Type 0 where
-  pub within : from ≤ length message
+-- so for all three, where the walk that is left is that of `walked` from `from` on
+pub record AllGoing (message : List ℕ) (at : ℕ) (a : Tallies) (walked : List ℕ) (from : ℕ) : Type 0 where
+  pub walks : walked ≡ message
   pub vehicle_goes : Going Field.Vehicle message at a.vehicle from
   pub records_goes : Going Field.Records message at a.records from
   pub state_goes : Going Field.OffloadState message at a.state from
 
-pub all_start : (message : List ℕ) (at : ℕ) → at ≤ length message → AllGoing message at (record { vehicle = None; records = None; state = None }) at
-all_start message at l = record {
-  within = l;
+pub all_start : (message : List ℕ) (at : ℕ) → AllGoing message at (record { vehicle = None; records = None; state = None }) message at
+all_start message at = record {
+  walks = refl;
   vehicle_goes = followed_is (those (has Field.Vehicle) (walk_from message at));
   records_goes = followed_is (those (has Field.Records) (walk_from message at));
   state_goes = followed_is (those (has Field.OffloadState) (walk_from message at));
 }
 
-module _ {message : List ℕ} {at : ℕ} {a : Tallies} {from : ℕ} (g : AllGoing message at a from) where
-  pub all_end : next_of (walk_from message from) ≡ None → TalliesOf (walk_from message at) a
+module _ {message : List ℕ} {at : ℕ} {a : Tallies} {walked : List ℕ} {from : ℕ} (g : AllGoing message at a walked from) where
+  -- a step is one of the message's walk
+  of_message : {found : Option Places} → found ≡ next_of (walk_from walked from) → next_of (walk_from message from) ≡ found
+  of_message q = sym (q ∙ ap (λ (s : List ℕ). next_of (walk_from s from)) g.walks)
+
+  pub all_end : None ≡ next_of (walk_from walked from) → TalliesOf (walk_from message at) a
   all_end q = record {
     vehicle_is = ended Field.Vehicle a.vehicle g.vehicle_goes;
     records_is = ended Field.Records a.records g.records_goes;
@@ -66,20 +70,20 @@ module _ {message : List ℕ} {at : ℕ} {a : Tallies} {from : ℕ} (g : AllGoin
   }
     where
       ended : (f : Field) (b : Option Found) → Going f message at b from → b ≡ tally_of f (walk_from message at)
-      ended f b h = sym (ap (λ (ts : List Trailer). followed b (those (has f) ts)) (none_is (walk_from message from) q)) ∙ h
+      ended f b h = sym (ap (λ (ts : List Trailer). followed b (those (has f) ts)) (none_is (walk_from message from) (of_message q))) ∙ h
 
-  module _ {p : Places} (q : next_of (walk_from message from) ≡ Some p) where
+  module _ {p : Places} {after : List ℕ} {next : ℕ} (walk : Passes walked from (Some p) after next) where
+    pub order : (p.start ≤ p.token_end) × (p.token_end ≤ p.end) × (p.end ≤ length message)
+    order = omega (arith, ap length g.walks, walk.order)
+
     first : First (walk_from message from) p
-    first = first_is (walk_from message from) q
+    first = first_is (walk_from message from) (of_message walk.first)
 
     there : Stands message first.found
     there = walk_stands message from first.found first.later first.walked
 
     ends : p.end ≡ end_of first.found
     ends = ap (λ (x : Places). x.end) first.places
-
-    pub order : (p.start ≤ p.token_end) × (p.token_end ≤ p.end) × (p.value_start ≤ p.end) × (from < p.end) × (p.end ≤ length message)
-    order = omega (arith, ends, places_fit there first.places, walk_moves message from first.found first.later first.walked)
 
     list : walk_from message from ≡ first.found ∷ walk_from message p.end
     list = cc (first.walked, ends, walk_step message from first.found first.later first.walked)
@@ -106,10 +110,10 @@ module _ {message : List ℕ} {at : ℕ} {a : Tallies} {from : ℕ} (g : AllGoin
     pub all_step : {v r s : Option Found} → v ≡ counted a.vehicle (has Field.Vehicle (take (p.token_end - p.start) (drop p.start message))) (record { start = p.value_start; end = p.end })
         → r ≡ counted a.records (has Field.Records (take (p.token_end - p.start) (drop p.start message))) (record { start = p.value_start; end = p.end })
         → s ≡ counted a.state (has Field.OffloadState (take (p.token_end - p.start) (drop p.start message))) (record { start = p.value_start; end = p.end })
-        → AllGoing message at (record { vehicle = v; records = r; state = s }) p.end
+        → AllGoing message at (record { vehicle = v; records = r; state = s }) after next
     unfolding token raw
-    all_step v r s = rw (v, r, s) (record {
-      within = order.4;
+    all_step v r s = rw (v, r, s, walk.goes) (record {
+      walks = walk.stays ∙ g.walks;
       vehicle_goes = step Field.Vehicle a.vehicle g.vehicle_goes;
       records_goes = step Field.Records a.records g.records_goes;
       state_goes = step Field.OffloadState a.state g.state_goes;

@@ -7,7 +7,7 @@ ghost use Rattle.fields.specs.Tally.{TalliesOf, counted};
 use closing::Field;
 use rules::Part;
 use text::fixed::eq_ignore_ascii_case;
-use trailer::walk::next_trailer_from;
+use trailer::walk::Trailers;
 
 // The trailers with a name: one alone, whose raw value stands there, or more.
 #[derive(Clone, Copy)]
@@ -58,8 +58,7 @@ pub fn tally_fields(message: &[u8], at: usize) -> Tallies
         records: None,
         state: None,
     };
-    let mut from = at;
-    while let Some(places) = next_trailer_from(message, from) {
+    for places in (Trailers { body: message, at }) {
         let token = &message[places.start..places.token_end];
         let raw = Part {
             start: places.value_start,
@@ -73,7 +72,6 @@ pub fn tally_fields(message: &[u8], at: usize) -> Tallies
             records,
             state,
         };
-        from = places.end;
     }
     tallies
 }

@@ -7,49 +7,50 @@ use mathlib.Core.Path.{◌≡◌, refl, sym, ap, ◌∙◌}
 use Prim.Native.Nat.{ℕ, ◌-◌, ◌≤◌, ◌<◌}
 use native.Mathlib.Omega.{arith}
 use lib.ListN.{length, take, drop}
-use Rattle.rules.proofs.Record.{places_fit, token_is}
-use Rattle.rules.proofs.Walk.{Stands, those-steps, walk_moves, walk_stands, walk_step}
+use Rattle.rules.proofs.Record.{token_is}
+use Rattle.rules.proofs.Walk.{those-steps, walk_stands, walk_step}
 use Rattle.rules.specs.Record.{places_of}
 use Rattle.rules.specs.Trailer.{Trailer, asked, end_of, finally, lookup, those, walk_from}
 use Rattle.rules.specs.declared.Places.{Places}
 use Rattle.trailer.proofs.Steps.{First, first_is, none_is}
-use Rattle.trailer.specs.Walk.{next_of}
+use Rattle.trailer.specs.Walk.{Passes, next_of}
 use Rattle.filter.specs.Lookup.{looked_up}
 
--- where a step finds none, none is wanted
-pub none_wanted : (passes : List ℕ → Bool) (ts : List Trailer) → next_of ts ≡ None → None ≡ next_of (those passes ts)
-none_wanted passes ts q = rw (none_is ts q)
+-- where a step of the walk of a body finds none, none is wanted
+pub none_wanted : {body walked : List ℕ} (at : ℕ) → walked ≡ body → None ≡ next_of (walk_from walked at)
+    → (passes : List ℕ → Bool) → None ≡ next_of (those passes (walk_from body at))
+none_wanted {body} {walked} at same q passes = rw (← same, none_is (walk_from walked at) (sym q))
 
--- A step from `at` on has found a trailer at the places `p`: they are inside the body, and the walk moves on. It is the answer if
--- its token is wanted; else the answer is that of the walk from its end on.
-pub record Found (body : List ℕ) (at : ℕ) (p : Places) : Type 0 where
-  pub order : (p.start ≤ p.token_end) × (p.token_end ≤ p.end) × (at < p.end) × (p.end ≤ length body)
+-- A step of the walk of a body from `at` to `next` has found a trailer at the places `p`: they lie in order inside of the body. The trailer
+-- is the answer if its token is wanted; else the answer is that of the walk from `next` on.
+pub record Found (body : List ℕ) (at : ℕ) (p : Places) (next : ℕ) : Type 0 where
+  pub order : (p.start ≤ p.token_end) × (p.token_end ≤ p.end) × (p.end ≤ length body)
   pub kept : (passes : List ℕ → Bool) → passes (take (p.token_end - p.start) (drop p.start body)) ≡ true
       → Some p ≡ next_of (those passes (walk_from body at))
   pub passed : (passes : List ℕ → Bool) → passes (take (p.token_end - p.start) (drop p.start body)) ≡ false
-      → next_of (those passes (walk_from body p.end)) ≡ next_of (those passes (walk_from body at))
+      → next_of (those passes (walk_from body next)) ≡ next_of (those passes (walk_from body at))
 
-module _ (body : List ℕ) (at : ℕ) {p : Places} (q : next_of (walk_from body at) ≡ Some p) where
+module _ {body walked after : List ℕ} {at next : ℕ} {p : Places} (same : walked ≡ body) (step : Passes walked at (Some p) after next) where
+  here : next_of (walk_from body at) ≡ Some p
+  here = sym (step.first ∙ ap (λ (s : List ℕ). next_of (walk_from s at)) same)
+
   first : First (walk_from body at) p
-  first = first_is (walk_from body at) q
+  first = first_is (walk_from body at) here
 
   abbrev t : Trailer
   t = first.found
-
-  there : Stands body t
-  there = walk_stands body at t first.later first.walked
 
   -- the others are those of the walk from its end on
   list : walk_from body at ≡ t ∷ walk_from body (end_of t)
   list = cc (first.walked, walk_step body at t first.later first.walked)
 
-  pub found : Found body at p
+  pub found : Found body at p next
   found =
-      let end : p.end ≡ end_of t = ap (λ (at : Places). at.end) first.places in
-      let token = token_is there first.places in
+      let end : next ≡ end_of t = step.goes ∙ ap (λ (at : Places). at.end) first.places in
+      let token = token_is (walk_stands body at t first.later first.walked) first.places in
       record {
-        order = omega (arith, end, places_fit there first.places, walk_moves body at t first.later first.walked);
-        kept = λ passes k. sym q ∙ rw (list, rw token at k);
+        order = omega (arith, ap length same, step.order);
+        kept = λ passes k. sym here ∙ rw (list, rw token at k);
         passed = λ passes k. ap (λ (e : ℕ). next_of (those passes (walk_from body e))) end ∙ rw (list, rw token at k);
       }
 

@@ -14,7 +14,7 @@ use crate::token::{
 };
 use rules::{Kind, Places};
 use text::fixed::eq_ignore_ascii_case;
-use trailer::walk::next_trailer_from;
+use trailer::walk::Trailers;
 
 // Whether a token is one of the two that name an author.
 fn is_author(token: &[u8]) -> bool
@@ -65,14 +65,12 @@ fn next_wanted<F: Fn(&[u8]) -> bool>(body: &[u8], at: usize, is_wanted: F) -> Op
     requires at_in_bounds { at ≤ length body.now }
     ensures { (passes : List ℕ → Bool) → Computes (FnReturnsAt F.Fn is_wanted) passes → result ≡ next_of (those passes (walk_from body.now at)) }
 {
-    let mut from = at;
-    loop {
-        let places = next_trailer_from(body, from)?;
+    for places in (Trailers { body, at }) {
         if is_wanted(&body[places.start..places.token_end]) {
             return Some(places);
         }
-        from = places.end;
     }
+    None
 }
 
 // The first trailer of the walk from `at` on whose token is of the kind.

@@ -10,7 +10,7 @@ use lib.ListN.{length, take, drop, length-append}
 use Rattle.rules.proofs.Parts.{rest}
 use Rattle.rules.proofs.Record.{places_fit, raw_is}
 use Rattle.rules.proofs.Unfolded.{unfolded_short}
-use Rattle.rules.proofs.Walk.{Stands, those_place, walk_moves, walk_stands, walk_step}
+use Rattle.rules.proofs.Walk.{Stands, those_place, walk_stands, walk_step}
 use Rattle.rules.specs.Bytes.{LF}
 use Rattle.rules.specs.Lines.{Line, before, folds, lines}
 use Rattle.rules.specs.Lists.{run}
@@ -48,9 +48,9 @@ pub none_left : (s : List ℕ) (at : ℕ) → walk_from s at ≡ [] → (length 
 unfolding values_of
 none_left s at e = (ap length e, ap (λ (ts : List Trailer). length (values_of ts)) e)
 
--- the trailer that a step from `at` on has found, by its places: they are ahead and inside, and what it adds
+-- the trailer that a step from `at` on has found, by its places: its value is ahead, and what it adds
 pub record Found (s : List ℕ) (at : ℕ) (p : Places) : Type 0 where
-  pub order : (at ≤ p.value_start) × (p.value_start ≤ p.end) × (at < p.end) × (p.end ≤ length s)
+  pub ahead : at ≤ p.value_start
   pub one : length (walk_from s at) ≡ length (walk_from s p.end) + 1
   pub bytes : length (values_of (walk_from s at))
       ≡ length (written_of (take (p.end - p.value_start) (drop p.value_start s))) + length (values_of (walk_from s p.end))
@@ -81,7 +81,7 @@ module _ (s : List ℕ) (at : ℕ) {p : Places} (q : next_of (walk_from s at) �
       let fit = places_fit there first.places in
       let place = those_place s (is_of Kind.All) at (walk_from s at) t first.later refl (all_kept (walk_from s at) ∙ first.walked) in
       record {
-        order = (omega (arith, fit, place, begin), fit.2, omega (arith, end, walk_moves s at t first.later first.walked), fit.3);
+        ahead = omega (arith, fit, place, begin);
         one = omega (arith, ap length list, ap (λ (k : ℕ). length (walk_from s k)) end);
         bytes = omega (arith, values_are, ap (λ (x : List ℕ). length (written_of x)) raw, ap (λ (k : ℕ). length (values_of (walk_from s k))) end);
         few = omega (arith, written_short (raw_value t), there.raw_ends, end, ap (λ (k : Places). k.value_start) first.places, ap (λ (x : List ℕ). length (written_of x)) raw);

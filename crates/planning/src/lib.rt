@@ -23,7 +23,7 @@ use message::message_trailers;
 use numbering::{cursor_fits, move_on, move_over};
 use record::read_trailer;
 use rules::{Cursor, Part, Places, TrailerRef, Value, within_limit};
-use trailer::walk::next_trailer_from;
+use trailer::walk::{Trailers, next_trailer_from};
 use value::written_len;
 
 // What is listed of an input: the trailers from a cursor on, those of a message in a reading, or those of a body's foot, by the last bytes
@@ -130,7 +130,7 @@ fn turn(text: &[u8], done: Counts, told: Option<FromEnd>, read: TrailerRef, next
 }
 
 // The record of the trailer ahead, which stands at the places `at`: its value is unfolded into the part of the buffer that is still free.
-// As the single step does.
+// It is the record that the single step gives.
 pub fn list_step(text: &[u8], spot: Spot, at: Places, told: Option<FromEnd>, out: &mut [u8]) -> Step
     requires { Ready text.now spot at (length out.old) }
     ensures value { Some result ≡ turn_of spot told text.now (left_at spot text.now) }
@@ -151,11 +151,9 @@ fn count(input: &[u8], at: usize) -> Counts
 {
     let mut records: usize = 0;
     let mut bytes: usize = 0;
-    let mut from = at;
-    while let Some(places) = next_trailer_from(input, from) {
+    for places in (Trailers { body: input, at }) {
         bytes += written_len(&input[places.value_start..places.end]);
         records += 1;
-        from = places.end;
     }
     Counts { records, bytes }
 }

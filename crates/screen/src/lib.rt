@@ -11,7 +11,7 @@ ghost use Rattle.screen.specs.Parts.{Fits, line_at, lines_from, name_of, sizes_f
 use copy::copy_at;
 use message::message_trailers;
 use rules::{Places, Refusal};
-use trailer::walk::next_trailer_from;
+use trailer::walk::Trailers;
 use value::{unfold_into, unfolded_len};
 
 // How many trailers there are, and how long their lines are together.
@@ -39,11 +39,9 @@ fn measure(message: &[u8], at: usize) -> Sizes
         trailers: 0,
         bytes: 0,
     };
-    let mut from = at;
-    while let Some(places) = next_trailer_from(message, from) {
+    for places in (Trailers { body: message, at }) {
         sizes.trailers += 1;
         sizes.bytes += line_len(message, places);
-        from = places.end;
     }
     sizes
 }
@@ -98,11 +96,9 @@ fn put_lines(message: &[u8], at: usize, out: &mut [u8], place: usize)
     requires { (at ≤ length message.now) × (place + length (lines_from message.now at) ≤ length out.old) }
     ensures { out.new ≡ onto place (lines_from message.now at) out.old }
 {
-    let mut from = at;
     let mut to = place;
-    while let Some(places) = next_trailer_from(message, from) {
+    for places in (Trailers { body: message, at }) {
         to = put_line(message, places, out, to);
-        from = places.end;
     }
 }
 

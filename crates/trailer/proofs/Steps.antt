@@ -3,7 +3,7 @@
 use Rattle.std.specs.Prelude.{Option, None, Some}
 use mathlib.Core.Bool.{Bool, true, false}
 use mathlib.Core.List.{List, [], ◌∷◌}
-use mathlib.Core.Path.{◌≡◌, refl, ◌∙◌}
+use mathlib.Core.Path.{◌≡◌, refl, ◌∙◌, ap}
 use Prim.Native.Nat.{ℕ, ◌+◌, ◌-◌, ◌≤◌, ◌<◌}
 use native.Mathlib.Omega.{arith}
 use lib.ListN.{length, take, drop, length-append, length-drop}
@@ -11,9 +11,9 @@ use lib.Seq.{length-take-le}
 use Rattle.rules.specs.Lines.{Line, folds, lines}
 use Rattle.rules.specs.Lists.{join, run}
 use Rattle.rules.specs.Record.{places_of}
-use Rattle.rules.specs.Trailer.{Trailer, trailer_line, token_in, gap_in, walk, walk_from}
+use Rattle.rules.specs.Trailer.{Trailer, trailer_line, token_in, gap_in, walk, walk_from, end_of}
 use Rattle.rules.specs.declared.Places.{Places}
-use Rattle.rules.proofs.Walk.{walk_ends}
+use Rattle.rules.proofs.Walk.{walk_ends, Stands, walk_moves, walk_stands}
 use Rattle.text.specs.Lines.{first_length}
 use Rattle.rules.proofs.Parts.{rest}
 use Rattle.trailer.specs.Line.{at_start}
@@ -21,6 +21,7 @@ use Rattle.trailer.specs.Walk.{next_of}
 use Rattle.trailer.specs.declared.line.TrailerAtStart.{TrailerAtStart}
 use Rattle.trailer.proofs.AtStart.{start_within}
 use Rattle.text.proofs.ByLines.{line_then, line_length}
+use Rattle.rules.proofs.Record.{places_fit}
 
 abbrev places_from : ℕ → ℕ → ℕ → ℕ → ℕ → Places
 places_from at token value first len = record {
@@ -87,3 +88,13 @@ first_is (t ∷ ts) e = record { found = t; later = ts; walked = refl; places = 
 pub none_is : (ts : List Trailer) → next_of ts ≡ None → ts ≡ []
 none_is [] e = refl
 none_is (t ∷ ts) e = cc
+
+-- ---- a step of the walk: the places lie in order, after where it began and inside of the body
+
+pub step_order : (body : List ℕ) (at : ℕ) {p : Places} → next_of (walk_from body at) ≡ Some p
+    → (p.start ≤ p.token_end) × (p.token_end ≤ p.end) × (p.value_start ≤ p.end) × (at < p.end) × (p.end ≤ length body)
+step_order body at {p} q =
+    let first : First (walk_from body at) p = first_is (walk_from body at) q in
+    let there : Stands body first.found = walk_stands body at first.found first.later first.walked in
+    let ends : p.end ≡ end_of first.found = ap (λ (x : Places). x.end) first.places in
+    omega (arith, ends, places_fit there first.places, walk_moves body at first.found first.later first.walked)

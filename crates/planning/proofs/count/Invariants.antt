@@ -1,7 +1,6 @@
--- `planning::count` meets its contract. Invariant: the counts so far and those of the walk from `from` on are all. Measure: the bytes
--- ahead.
+-- `planning::count` meets its contract. Invariant: the counts so far and those of the walk that is left are all.
 use mathlib.Core.Path.{◌≡◌}
-use Prim.Native.Nat.{◌+◌, ◌-◌, ◌≤◌}
+use Prim.Native.Nat.{◌+◌, ◌≤◌}
 use lib.ListN.{length}
 use Rattle.rules.specs.Trailer.{walk_from}
 use Rattle.listing.specs.Listing.{values_of}
@@ -9,8 +8,7 @@ use Rattle.planning.proofs.count.Given as goal
 
 abbrev pub invariant-loop-places : goal.invariant-loop-places
 invariant-loop-places l =
-    (l.from ≤ length l.input) × (l.records ≤ l.from) × (l.bytes ≤ l.from) × (l.records + length (walk_from l.input l.from) ≡ length (walk_from l.input l.at))
-    × (l.bytes + length (values_of (walk_from l.input l.from)) ≡ length (values_of (walk_from l.input l.at)))
-
-abbrev pub decreases-loop-places : goal.decreases-loop-places
-decreases-loop-places l = length l.input - l.from
+    let from = l.places-iterator.at in
+    (l.places-iterator.body.now ≡ l.input) × (l.records ≤ from) × (l.bytes ≤ from)
+    × (l.records + length (walk_from l.input from) ≡ length (walk_from l.input l.at))
+    × (l.bytes + length (values_of (walk_from l.input from)) ≡ length (values_of (walk_from l.input l.at)))
