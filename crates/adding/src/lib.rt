@@ -77,13 +77,15 @@ fn has_block(message: &[u8]) -> bool
     trailer_block_start(&message[start..]) < message.len() - start
 }
 
-// The LF that the last line lacks; a CR alone is none.
+// The LF that the last line lacks; a CR alone is none. It is the end of a longer string: to copy one whose bytes are all alike, the compiler calls
+// memset, which a unit without the C library does not have.
 fn lacking<'a>(ending: Ending) -> &'a [u8]
     ensures { result.now ≡ lacking ending }
 {
+    let line_end = b"\r\n".as_slice();
     match ending {
         Ending::Lf | Ending::CrLf => b"",
-        Ending::Cr | Ending::None => b"\n",
+        Ending::Cr | Ending::None => &line_end[1..],
     }
 }
 
@@ -91,9 +93,10 @@ fn lacking<'a>(ending: Ending) -> &'a [u8]
 fn new_end<'a>(ending: Ending) -> &'a [u8]
     ensures { result.now ≡ new_end ending }
 {
+    let line_end = b"\r\n".as_slice();
     match ending {
         Ending::CrLf => b"\r\n",
-        Ending::Lf | Ending::Cr | Ending::None => b"\n",
+        Ending::Lf | Ending::Cr | Ending::None => &line_end[1..],
     }
 }
 

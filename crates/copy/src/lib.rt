@@ -9,5 +9,7 @@ pub fn copy_at<T: Copy>(src: &[T], out: &mut [T], at: usize)
     requires { at + length src.now ≤ length out.old }
     ensures { out.new ≡ paste out.old at src.now (length src.now) }
 {
-    out[at..at + src.len()].copy_from_slice(src);
+    for i in 0..src.len() {
+        out[at + i] = src[i];
+    }
 }
