@@ -75,6 +75,12 @@ records_one (c ∷ []) l a =
     (record { has_digits = tt; all_digits = t; without_needless_zero = tt })
     (le→leb (number_of (c ∷ [])) most_records (omega arith))))
 
+pub records_digit : (v : List ℕ) → length v ≡ 1 → all digit v ≡ good_records v
+records_digit v l =
+    same_test (all digit v) (good_records v)
+    (λ a. rw (← records_one v l (is_true (all digit v) a)) tt)
+    (λ t. (records_parts v t).0.all_digits)
+
 zero_first : (v : List ℕ) → 2 ≤ length v → get_or v 0 0 ≡ 48 → T (no_needless_zero v) → ⊥
 zero_first [] l z t = omega arith
 zero_first (c ∷ []) l z t = omega arith
@@ -97,4 +103,4 @@ records_number v l a n =
 -- the tests in the order of the code
 pub ruleset vehicle_tests = (vehicle_digits, vehicle_other)
 
-pub ruleset records_tests = (records_others, records_one, records_zero, records_number, records_other)
+pub ruleset records_tests = (records_others, records_digit, records_zero, records_number, records_other)

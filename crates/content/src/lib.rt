@@ -42,17 +42,15 @@ fn is_vehicle(v: &[u8]) -> bool
     }
 }
 
-// A count: a decimal up to 1,000,000 without needless zeros. Its length is judged before its number, which then does not overflow.
+// A count: a decimal up to 1,000,000 without needless zeros. Its length is judged first: a long value is not read, and the number of a
+// short one does not overflow.
 #[tactic(auto, using(crate::proofs::Tests::records_tests))]
 fn is_records(v: &[u8]) -> bool
     ensures { result ≡ good_records v.now }
 {
-    if !all_digits(v) {
-        return false;
-    }
     match v.len() {
-        1 => true,
-        2..=7 => v[0] != b'0' && number_of(v) <= MOST_RECORDS,
+        1 => all_digits(v),
+        2..=7 => all_digits(v) && v[0] != b'0' && number_of(v) <= MOST_RECORDS,
         _ => false,
     }
 }
