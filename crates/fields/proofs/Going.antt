@@ -3,7 +3,7 @@ use Rattle.std.specs.Prelude.{Option, None, Some, if◌then◌else◌}
 use mathlib.Core.Bool.{Bool, true, false}
 use mathlib.Core.List.{List, [], ◌∷◌}
 use mathlib.Core.Path.{◌≡◌, refl, sym, ap, ◌∙◌}
-use Prim.Native.Nat.{ℕ, ◌-◌, ◌≤◌}
+use Prim.Native.Nat.{ℕ, suc, ◌+◌, ◌-◌, ◌≤◌, ◌<◌}
 use native.Mathlib.Omega.{arith}
 use lib.ListN.{length, take, drop}
 use Rattle.rules.specs.Trailer.{Trailer, token_of, raw_value_at, end_of, those, walk_from}
@@ -15,7 +15,7 @@ use Rattle.trailer.proofs.Steps.{First, first_is, none_is}
 use Rattle.trailer.specs.Walk.{Passes, next_of}
 use Rattle.closing.specs.Closing.{has}
 use Rattle.closing.specs.declared.Field.{Field}
-use Rattle.fields.specs.Tally.{raw_part, found_of, tally_of, more, counted, TalliesOf}
+use Rattle.fields.specs.Tally.{raw_part, last_part, found_of, how_many, tally_of, more, counted, TalliesOf}
 use Rattle.fields.specs.declared.tally.Found.{Found}
 use Rattle.fields.specs.declared.tally.Tallies.{Tallies}
 
@@ -24,23 +24,36 @@ abbrev followed : Option Found → List Trailer → Option Found
 followed found [] = found
 followed found (t ∷ ts) = followed (more found (raw_part t)) ts
 
-repeated_stays : (ts : List Trailer) → followed (Some Found.Repeated) ts ≡ Some Found.Repeated
-repeated_stays [] = refl
-repeated_stays (t ∷ ts) = repeated_stays ts
+same_repeated : {n k : ℕ} (last : Part) → n ≡ k → Some (Found.Repeated n last) ≡ Some (Found.Repeated k last)
+same_repeated last e = ap (λ (n : ℕ). Some (Found.Repeated n last)) e
+
+repeated_goes : (n : ℕ) (last : Part) (ts : List Trailer) → followed (Some (Found.Repeated n last)) ts ≡ Some (Found.Repeated (n + length ts) (last_part last ts))
+repeated_goes n last [] = same_repeated last (omega arith)
+repeated_goes n last (t ∷ ts) = repeated_goes (n + 1) (raw_part t) ts ∙ same_repeated (last_part (raw_part t) ts) (omega arith)
 
 followed_is : (ts : List Trailer) → followed None ts ≡ found_of ts
 followed_is [] = refl
 followed_is (t ∷ []) = refl
-followed_is (t ∷ u ∷ ts) = repeated_stays ts
+followed_is (t ∷ u ∷ ts) = repeated_goes 2 (raw_part u) ts ∙ same_repeated (last_part (raw_part u) ts) (omega arith)
 
 -- one trailer more, in front of the others with the name
 followed_more : (a : Option Found) (b : Bool) (t : Trailer) (ts : List Trailer) → followed (counted a b (raw_part t)) ts ≡ followed a (if b then t ∷ ts else ts)
 followed_more a true t ts = refl
 followed_more a false t ts = refl
 
+one_more : (a : Option Found) (b : Bool) (raw : Part) → how_many (counted a b raw) ≤ suc (how_many a)
+one_more None true raw = omega arith
+one_more (Some (Found.Once first)) true raw = omega arith
+one_more (Some (Found.Repeated count last)) true raw = omega arith
+one_more a false raw = omega arith
+
 -- what is found of a field in the walk from `at` on is what is found up to `from`, and in the walk from there on
-abbrev Going : Field → List ℕ → ℕ → Option Found → ℕ → Type 0
-Going f message at a from = followed a (those (has f) (walk_from message from)) ≡ tally_of f (walk_from message at)
+pub record Going (f : Field) (message : List ℕ) (at : ℕ) (a : Option Found) (from : ℕ) : Type 0 where
+  pub few : how_many a ≤ from
+  pub whole : followed a (those (has f) (walk_from message from)) ≡ tally_of f (walk_from message at)
+
+going_start : (f : Field) (message : List ℕ) (at : ℕ) → Going f message at None at
+going_start f message at = record { few = omega arith; whole = followed_is (those (has f) (walk_from message at)) }
 
 -- so for all three, where the walk that is left is that of `walked` from `from` on
 pub record AllGoing (message : List ℕ) (at : ℕ) (a : Tallies) (walked : List ℕ) (from : ℕ) : Type 0 where
@@ -52,9 +65,9 @@ pub record AllGoing (message : List ℕ) (at : ℕ) (a : Tallies) (walked : List
 pub all_start : (message : List ℕ) (at : ℕ) → AllGoing message at (record { vehicle = None; records = None; state = None }) message at
 all_start message at = record {
   walks = refl;
-  vehicle_goes = followed_is (those (has Field.Vehicle) (walk_from message at));
-  records_goes = followed_is (those (has Field.Records) (walk_from message at));
-  state_goes = followed_is (those (has Field.OffloadState) (walk_from message at));
+  vehicle_goes = going_start Field.Vehicle message at;
+  records_goes = going_start Field.Records message at;
+  state_goes = going_start Field.OffloadState message at;
 }
 
 module _ {message : List ℕ} {at : ℕ} {a : Tallies} {walked : List ℕ} {from : ℕ} (g : AllGoing message at a walked from) where
@@ -70,10 +83,10 @@ module _ {message : List ℕ} {at : ℕ} {a : Tallies} {walked : List ℕ} {from
   }
     where
       ended : (f : Field) (b : Option Found) → Going f message at b from → b ≡ tally_of f (walk_from message at)
-      ended f b h = sym (ap (λ (ts : List Trailer). followed b (those (has f) ts)) (none_is (walk_from message from) (of_message q))) ∙ h
+      ended f b h = sym (ap (λ (ts : List Trailer). followed b (those (has f) ts)) (none_is (walk_from message from) (of_message q))) ∙ h.whole
 
   module _ {p : Places} {after : List ℕ} {next : ℕ} (walk : Passes walked from (Some p) after next) where
-    pub order : (p.start ≤ p.token_end) × (p.token_end ≤ p.end) × (p.end ≤ length message)
+    pub order : (p.start ≤ p.token_end) × (p.token_end ≤ p.end) × (from < p.end) × (p.end ≤ length message)
     order = omega (arith, ap length g.walks, walk.order)
 
     first : First (walk_from message from) p
@@ -99,8 +112,11 @@ module _ {message : List ℕ} {at : ℕ} {a : Tallies} {walked : List ℕ} {from
     step f b h =
         let named : token ≡ token_of first.found = token_is there first.places in
         let value : p.value_start ≡ raw_value_at first.found = ap (λ (x : Places). x.value_start) first.places in
-        same b named value ends ∙ followed_more b (has f (token_of first.found)) first.found (those (has f) (walk_from message p.end))
-        ∙ sym (ap (λ (ts : List Trailer). followed b (those (has f) ts)) list) ∙ h
+        record {
+          few = omega (arith, one_more b (has f (take (p.token_end - p.start) (drop p.start message))) raw, h.few, order);
+          whole = same b named value ends ∙ followed_more b (has f (token_of first.found)) first.found (those (has f) (walk_from message p.end))
+              ∙ sym (ap (λ (ts : List Trailer). followed b (those (has f) ts)) list) ∙ h.whole;
+        }
       where
         same : (b : Option Found) {x y : List ℕ} {c d e g : ℕ} → x ≡ y → c ≡ d → e ≡ g
             → followed (counted b (has f x) (record { start = c; end = e })) (those (has f) (walk_from message p.end))

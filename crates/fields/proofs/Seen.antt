@@ -21,7 +21,7 @@ use Rattle.closing.specs.declared.Fault.{Fault}
 use Rattle.closing.specs.declared.Field.{Field}
 use Rattle.closing.proofs.Judged.{judged_alone, good-filled, good_sole}
 use Rattle.closing.proofs.Place.{part_in_lem, Alone, alone}
-use Rattle.fields.specs.Note.{Inside, IsContent}
+use Rattle.fields.specs.Note.{Inside, IsContent, repeats}
 use Rattle.fields.specs.Sole.{IsSole, part_in}
 use Rattle.fields.specs.Tally.{raw_part, found_of, tally_of}
 use Rattle.fields.specs.declared.tally.Found.{Found}
@@ -72,10 +72,11 @@ module _ (f : Field) (ts : List Trailer) where
   is_present [] e = absurd (cc)
   is_present (t ∷ us) e = refl
 
-  is_repeated : (us : List Trailer) → Some Found.Repeated ≡ found_of us → says Fault.Repeated f (map content us) ≡ true
-  is_repeated [] e = absurd (cc)
-  is_repeated (t ∷ []) e = absurd (cc)
-  is_repeated (t ∷ u ∷ us) e = lt-ltb 1 (length (map content (t ∷ u ∷ us))) (omega arith)
+  is_repeated : (us : List Trailer) (x : Found) → Some x ≡ found_of us → repeats x ≡ true → says Fault.Repeated f (map content us) ≡ true
+  is_repeated [] x e r = absurd (cc)
+  is_repeated (t ∷ []) (Found.Once raw) e r = absurd (cc)
+  is_repeated (t ∷ []) (Found.Repeated count last) e r = absurd (cc)
+  is_repeated (t ∷ u ∷ us) x e r = lt-ltb 1 (length (map content (t ∷ u ∷ us))) (omega arith)
 
   pub missing : None ≡ tally_of f ts → says Fault.Missing f (contents f ts) ≡ true
   missing = is_missing (those (has f) ts)
@@ -83,8 +84,8 @@ module _ (f : Field) (ts : List Trailer) where
   pub present : {x : Found} → Some x ≡ tally_of f ts → says Fault.Missing f (contents f ts) ≡ false
   present = is_present (those (has f) ts)
 
-  pub repeated : Some Found.Repeated ≡ tally_of f ts → says Fault.Repeated f (contents f ts) ≡ true
-  repeated = is_repeated (those (has f) ts)
+  pub repeated : {x : Found} → Some x ≡ tally_of f ts → repeats x ≡ true → says Fault.Repeated f (contents f ts) ≡ true
+  repeated {x} = is_repeated (those (has f) ts) x
 
 -- ---- of one trailer alone
 

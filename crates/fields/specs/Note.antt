@@ -1,5 +1,5 @@
 -- What each step towards the note answers of a field: a refusal, or what the next step takes.
-use Rattle.std.specs.Prelude.{true, false, List, ◌≡◌, ℕ, ◌+◌, ◌≤◌, length, Option, Some, None, Result, Ok, Err}
+use Rattle.std.specs.Prelude.{Bool, true, false, List, ◌≡◌, ℕ, ◌+◌, ◌≤◌, length, Option, Some, None, Result, Ok, Err}
 use Rattle.rules.specs.Lines.{lines}
 use Rattle.rules.specs.Trailer.{unfolded}
 use Rattle.rules.specs.declared.Part.{Part}
@@ -16,10 +16,14 @@ abbrev pub PresentOf : Option Found → Field → Result Found NoteError → Typ
 PresentOf found f (Ok some) = found ≡ Some some
 PresentOf found f (Err e) = (found ≡ None) × (e ≡ NoteError.Refused Fault.Missing f)
 
+abbrev pub repeats : Found → Bool
+repeats (Found.Once raw) = false
+repeats (Found.Repeated count last) = true
+
 -- repeated, or not
 abbrev pub AloneOf : Found → Field → Result Part NoteError → Type 0
 AloneOf found f (Ok raw) = found ≡ Found.Once raw
-AloneOf found f (Err e) = (found ≡ Found.Repeated) × (e ≡ NoteError.Refused Fault.Repeated f)
+AloneOf found f (Err e) = (repeats found ≡ true) × (e ≡ NoteError.Refused Fault.Repeated f)
 
 abbrev pub Inside : List ℕ → Part → Type 0
 Inside message p = (p.start ≤ p.end) × (p.end ≤ length message)

@@ -27,7 +27,7 @@ fn alone(found: Found, field: Field) -> Result<Part, NoteError>
 {
     match found {
         Found::Once(raw) => Ok(raw),
-        Found::Repeated => Err(NoteError::Refused {
+        Found::Repeated(_, _) => Err(NoteError::Refused {
             fault: Fault::Repeated,
             field,
         }),

@@ -1,19 +1,19 @@
 // What is found of each field's name among the trailers of a walk, in one pass.
-ghost use Rattle.std.specs.Prelude.{◌≡◌, ◌≤◌, length};
+ghost use Rattle.std.specs.Prelude.{◌≡◌, ◌≤◌, ◌<◌, ◌^◌, length};
 ghost use Rattle.rules.specs.Trailer.{walk_from};
 ghost use Rattle.closing.specs.Closing.{has};
-ghost use Rattle.fields.specs.Tally.{TalliesOf, counted};
+ghost use Rattle.fields.specs.Tally.{TalliesOf, counted, how_many};
 
 use closing::Field;
 use rules::Part;
 use text::fixed::eq_ignore_ascii_case;
 use trailer::walk::Trailers;
 
-// The trailers with a name: one alone, whose raw value stands there, or more.
+// The trailers with a name: one alone, and where its raw value stands; or more, how many, and where that of the last stands.
 #[derive(Clone, Copy)]
 pub enum Found {
     Once(Part),
-    Repeated,
+    Repeated(usize, Part),
 }
 
 // Those of each field; none where no trailer has its name.
@@ -37,6 +37,7 @@ fn is_field(field: Field, token: &[u8]) -> bool
 
 // One trailer more, if its token is the field's name.
 fn count(found: Option<Found>, field: Field, token: &[u8], raw: Part) -> Option<Found>
+    requires { how_many found < 2 ^ 63 }
     ensures { result ≡ counted found (has field token.now) raw }
 {
     if !is_field(field, token) {
@@ -44,7 +45,8 @@ fn count(found: Option<Found>, field: Field, token: &[u8], raw: Part) -> Option<
     }
     match found {
         None => Some(Found::Once(raw)),
-        Some(_) => Some(Found::Repeated),
+        Some(Found::Once(_)) => Some(Found::Repeated(2, raw)),
+        Some(Found::Repeated(count, _)) => Some(Found::Repeated(count + 1, raw)),
     }
 }
 

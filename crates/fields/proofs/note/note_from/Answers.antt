@@ -1,8 +1,7 @@
 -- `fields::note::note_from` meets its contract: each `?` goes past a reason for a refusal, or stops at it. Assumes nothing.
-use Rattle.std.specs.Prelude.{Some}
 use Rattle.std.proofs.Common.{rules}
 use mathlib.Core.List.{◌++◌}
-use mathlib.Core.Path.{sym, ap, ◌∙◌}
+use mathlib.Core.Path.{sym, ◌∙◌}
 use Rattle.rules.specs.Trailer.{walk_from}
 use Rattle.closing.specs.Closing.{by_field}
 use Rattle.closing.specs.declared.Fault.{Fault}
@@ -43,14 +42,14 @@ pub returns-in_err-vehicle_raw : goal.returns-in_err-vehicle_raw
 returns-in_err-vehicle_raw c =
     let ts = walk_from c.args.message.now c.args.at in
     stopped (repeats_left (goal.at.returns-in_err-vehicle_raw c).In_ok-state_found)
-    (repeated Field.Vehicle ts (ap Some (sym c.in_err-vehicle_raw.ensures.0) ∙ sym c.in_ok-vehicle_found.ensures ∙ c.tally_fields-tallies.ensures.vehicle_is)) c.from_residual-in_err-vehicle_raw.result (search rules)
+    (repeated Field.Vehicle ts (sym c.in_ok-vehicle_found.ensures ∙ c.tally_fields-tallies.ensures.vehicle_is) c.in_err-vehicle_raw.ensures.0) c.from_residual-in_err-vehicle_raw.result (search rules)
 
 pub returns-in_err-records_raw : goal.returns-in_err-records_raw
 returns-in_err-records_raw c =
     let ts = walk_from c.args.message.now c.args.at in
     let v : Once Field.Vehicle c.args.message.now c.args.at c.in_ok-vehicle_raw.vehicle_raw = once c.in_ok-vehicle_raw.ensures c.in_ok-vehicle_found.ensures c.tally_fields-tallies.ensures.vehicle_is in
     stopped (passed (repeats_left (goal.at.returns-in_err-records_raw c).In_ok-state_found) (not_repeated v))
-    (repeated Field.Records ts (ap Some (sym c.in_err-records_raw.ensures.0) ∙ sym c.in_ok-records_found.ensures ∙ c.tally_fields-tallies.ensures.records_is)) c.from_residual-in_err-records_raw.result (search rules)
+    (repeated Field.Records ts (sym c.in_ok-records_found.ensures ∙ c.tally_fields-tallies.ensures.records_is) c.in_err-records_raw.ensures.0) c.from_residual-in_err-records_raw.result (search rules)
 
 pub returns-in_err-state_raw : goal.returns-in_err-state_raw
 returns-in_err-state_raw c =
@@ -58,7 +57,7 @@ returns-in_err-state_raw c =
     let v : Once Field.Vehicle c.args.message.now c.args.at c.in_ok-vehicle_raw.vehicle_raw = once c.in_ok-vehicle_raw.ensures c.in_ok-vehicle_found.ensures c.tally_fields-tallies.ensures.vehicle_is in
     let r : Once Field.Records c.args.message.now c.args.at c.in_ok-records_raw.records_raw = once c.in_ok-records_raw.ensures c.in_ok-records_found.ensures c.tally_fields-tallies.ensures.records_is in
     stopped (passed (passed (repeats_left (goal.at.returns-in_err-state_raw c).In_ok-state_found) (not_repeated v)) (not_repeated r))
-    (repeated Field.OffloadState ts (ap Some (sym c.in_err-state_raw.ensures.0) ∙ sym c.in_ok-state_found.ensures ∙ c.tally_fields-tallies.ensures.state_is)) c.from_residual-in_err-state_raw.result (search rules)
+    (repeated Field.OffloadState ts (sym c.in_ok-state_found.ensures ∙ c.tally_fields-tallies.ensures.state_is) c.in_err-state_raw.ensures.0) c.from_residual-in_err-state_raw.result (search rules)
 
 -- ---- then contents
 
