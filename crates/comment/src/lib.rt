@@ -28,7 +28,7 @@ fn is_taken(c: u8) -> bool
 }
 
 #[tactic(auto, unfolding(mailbox::specs::Grammar::comment_text))]
-fn is_comment_text(c: u8) -> bool
+pub fn is_comment_text(c: u8) -> bool
     ensures { result ≡ comment_text c }
 {
     (b'!'..=b'\'').contains(&c)
