@@ -111,7 +111,9 @@ pub fn fail<W: Write>(out: &mut W, what: &[u8], error: io::Error) {
 }
 
 // Writes the system's word for an error to the front of `buf`. std writes the error's number after it, in brackets, which is left out.
-fn error_text<'a>(error: &io::Error, buf: &'a mut [u8; 256]) -> &'a [u8] {
+fn error_text<'a>(error: &io::Error, buf: &'a mut [u8; 256]) -> &'a [u8]
+    ensures in_bounds { length result.now ≤ length buf.old }
+{
     let buf_len = buf.len();
     let mut rest = &mut buf[..];
     let _ = write!(rest, "{error}");

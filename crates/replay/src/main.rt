@@ -7,7 +7,7 @@
 
 mod answers;
 
-ghost use Rattle.std.specs.Prelude.{length, ◌≡◌};
+ghost use Rattle.std.specs.Prelude.{length, ◌≡◌, ◌≤◌};
 
 use answers::{Subject, answers_agree};
 use console::{buffer, fail, open_read, read_full, write_all};
@@ -56,7 +56,9 @@ fn read_file<'a, R: Files, E: Write>(
     errors: &mut E,
     name: &[u8],
     space: &'a mut [u8],
-) -> &'a [u8] {
+) -> &'a [u8]
+    ensures in_bounds { length result.now ≤ length space.old }
+{
     match open_read(rt, name) {
         Ok(mut file) => {
             let len = read_full(&mut file, space);
