@@ -31,14 +31,15 @@ pub enum LineKind {
     Other,
 }
 
+// What is printed before a line of the kind, in one piece: each piece is a write of its own.
 impl fmt::Display for LineKind {
     fn fmt<W: fmt::Write>(&self, f: &mut fmt::Formatter<W>) -> fmt::Result {
-        f.pad(match self {
-            LineKind::Recognised => "recognised",
-            LineKind::Trailer => "trailer line",
-            LineKind::Forgiven => "forgiven",
-            LineKind::NotForgiven => "not forgiven",
-            LineKind::Other => "other",
+        f.write_str(match self {
+            LineKind::Recognised => "  recognised   |",
+            LineKind::Trailer => "  trailer line |",
+            LineKind::Forgiven => "  forgiven     |",
+            LineKind::NotForgiven => "  not forgiven |",
+            LineKind::Other => "  other        |",
         })
     }
 }
@@ -156,7 +157,7 @@ fn print_paragraph<W: Write>(out: &mut W, lines: &[u8]) {
 // Prints a line's text after its kind, and how it ended where that is not LF.
 fn print_line<W: Write>(out: &mut W, kind: LineKind, line: &[u8]) {
     let text = trim_line_ending(line);
-    let _ = write!(out, "  {kind:12} |");
+    let _ = write!(out, "{kind}");
     write_all(out, &line[..text.len]);
     write_all(out, shown(text.ending));
 }
