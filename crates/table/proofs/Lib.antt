@@ -1,2 +1,3 @@
--- A table of records.
+-- A slice that is lent again, and a table of records.
+pub mod Again
 pub mod Entries

@@ -1,0 +1,2 @@
+-- How an answer moves the cursor.
+pub mod Moved
