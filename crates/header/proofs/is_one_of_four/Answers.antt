@@ -25,4 +25,4 @@ returns-then-name-lt4 c = short c.args.name.now c.if-name-lt4.true
 
 pub returns : goal.returns
 unfolding four
-returns c = rw (c.equals.ensures, c.equals-2.ensures, c.equals-3.ensures, c.equals-4.ensures)
+returns c = rw (c.is_name.ensures, c.is_name-2.ensures, c.is_name-3.ensures, c.is_name-4.ensures)
