@@ -11,7 +11,7 @@ use Rattle.fields.specs.declared.tally.Tallies.{Tallies}
 abbrev pub raw_part : Trailer → Part
 raw_part t = record { start = raw_value_at t; end = end_of t }
 
--- the last trailer's of some, or `raw` where there are none
+-- that of the last of some trailers, or `raw` where there are none
 abbrev pub last_part : Part → List Trailer → Part
 last_part raw [] = raw
 last_part raw (t ∷ ts) = last_part (raw_part t) ts
@@ -21,12 +21,6 @@ abbrev pub found_of : List Trailer → Option Found
 found_of [] = None
 found_of (t ∷ []) = Some (Found.Once (raw_part t))
 found_of (t ∷ u ∷ ts) = Some (Found.Repeated (length (t ∷ u ∷ ts)) (last_part (raw_part u) ts))
-
--- how many trailers were found
-abbrev pub how_many : Option Found → ℕ
-how_many None = 0
-how_many (Some (Found.Once raw)) = 1
-how_many (Some (Found.Repeated count last)) = count
 
 -- of those that have the field's name
 abbrev pub tally_of : Field → List Trailer → Option Found
@@ -46,3 +40,9 @@ more (Some (Found.Repeated count last)) raw = Some (Found.Repeated (count + 1) r
 abbrev pub counted : Option Found → Bool → Part → Option Found
 counted found true raw = more found raw
 counted found false raw = found
+
+-- how many trailers were found
+abbrev pub how_many : Option Found → ℕ
+how_many None = 0
+how_many (Some (Found.Once raw)) = 1
+how_many (Some (Found.Repeated count last)) = count
